@@ -1,0 +1,4 @@
+pub mod Frac
+pub mod Double
+pub mod Ops
+pub mod Horner

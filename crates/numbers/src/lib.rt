@@ -1,0 +1,1 @@
+// The methods of Rust's f64 that the language lacks.
