@@ -3,12 +3,12 @@ use Prim.Native.Nat.{ℕ}
 use mathlib.Core.Bool.{Bool, true, false, not, _&&_, _||_, cond}
 use lib.Ieee.{Float, nan, inf, fin, binary64, add, rem, lt, eq, ofBits, isNan}
 
--- 0.0, 1.0
-abbrev pub zero : Float
-zero = ofBits binary64 0
+-- 0.0 and 1.0
+abbrev pub zero64 : Float
+zero64 = ofBits binary64 0
 
-abbrev pub one : Float
-one = ofBits binary64 0x3FF0_0000_0000_0000
+abbrev pub one64 : Float
+one64 = ofBits binary64 0x3FF0_0000_0000_0000
 
 -- the sign bit; the one NaN of the definitions counts as positive
 unfoldable pub negative : Float → Bool
@@ -27,23 +27,23 @@ abs (inf s) = inf false
 abs (fin s m e) = fin false m e
 
 -- of a NaN and a number the number; of two zeros, whatever their signs, +0
-unfoldable pub max : Float → Float → Float
-max x y = cond (isNan x) y (cond (isNan y) x (cond (eq x zero && eq y zero) zero (cond (lt x y) y x)))
+unfoldable pub fmax : Float → Float → Float
+fmax x y = cond (isNan x) y (cond (isNan y) x (cond (eq x zero64 && eq y zero64) zero64 (cond (lt x y) y x)))
 
 -- into [-1, 1]; a NaN stays
 unfoldable pub clamp : Float → Float
-clamp x = cond (lt x (ofBits binary64 0xBFF0_0000_0000_0000)) (ofBits binary64 0xBFF0_0000_0000_0000) (cond (lt one x) one x)
+clamp x = cond (lt x (ofBits binary64 0xBFF0_0000_0000_0000)) (ofBits binary64 0xBFF0_0000_0000_0000) (cond (lt one64 x) one64 x)
 
--- 1 with the sign of x, of a zero too
+-- 1 with the sign of x, of a zero64 too
 unfoldable pub signum : Float → Float
 unfolding negative
-signum x = cond (isNan x) nan (cond (negative x) (ofBits binary64 0xBFF0_0000_0000_0000) one)
+signum x = cond (isNan x) nan (cond (negative x) (ofBits binary64 0xBFF0_0000_0000_0000) one64)
 
 -- a stands before b in the order of `total_cmp`: -0 before +0, and a NaN last
 unfoldable pub before : Float → Float → Bool
 unfolding negative
 before a b = not (isNan a) && (isNan b || (lt a b || (eq a b && (negative a && not (negative b)))))
 
--- for a positive b: % and, if negative, one addition
+-- for a positive b: % and, if negative, one64 addition
 unfoldable pub remEuclid : Float → Float → Float
-remEuclid a b = let r = rem binary64 a b in cond (lt r zero) (add binary64 r b) r
+remEuclid a b = let r = rem binary64 a b in cond (lt r zero64) (add binary64 r b) r
