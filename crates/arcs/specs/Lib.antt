@@ -1,0 +1,2 @@
+pub mod Coefs
+pub mod Arcs

@@ -1,0 +1,3 @@
+// The root, sine, cosine and arctangent.
+
+pub mod arc;
