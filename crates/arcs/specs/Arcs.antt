@@ -75,9 +75,9 @@ unfoldable pub series : Float → Float
 series v = mul binary64 v (horner doubles arctangentCoefs (mul binary64 v v))
 
 -- the arctangent of a ratio u from 0 to 1
-unfoldable pub slope : Float → Float
+unfoldable pub ofRatio : Float → Float
 unfolding series
-slope u =
+ofRatio u =
     cond (lt rootTwoLess u) (add binary64 quarterPi (series (div binary64 (sub binary64 u one64) (add binary64 u one64)))) (series u)
 
 -- u: the smaller magnitude over the larger, 0 if both are 0
@@ -85,15 +85,15 @@ unfoldable pub ratio : Float → Float → Float
 ratio small large = cond (eq large zero64) zero64 (div binary64 small large)
 
 -- of two magnitudes, y's and x's
-unfoldable pub quadrantOf : Float → Float → Float
-unfolding slope ratio
-quadrantOf y x = cond (lt x y) (sub binary64 halfPi (slope (ratio x y))) (slope (ratio y x))
+unfoldable pub ofMagnitudes : Float → Float → Float
+unfolding ofRatio ratio
+ofMagnitudes y x = cond (lt x y) (sub binary64 halfPi (ofRatio (ratio x y))) (ofRatio (ratio y x))
 
 -- of two finite doubles
 unfoldable pub arctangentOf : Float → Float → Float
-unfolding quadrantOf
+unfolding ofMagnitudes
 arctangentOf y x =
-    let w = quadrantOf (abs y) (abs x) in
+    let w = ofMagnitudes (abs y) (abs x) in
     let p = cond (negative x) (sub binary64 pi w) w in
     cond (negative y) (neg p) p
 

@@ -1,2 +1,3 @@
 pub mod Coefs
 pub mod Arcs
+pub mod Nearest
