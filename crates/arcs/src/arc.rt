@@ -1,5 +1,9 @@
 // Sine, cosine and arctangent, operation by operation as specs/Arcs.antt defines them.
 
+use crate::horner::horner;
+use numbers::abs;
+use numbers::is_finite;
+use numbers::negative;
 ghost use mathlib.Core.Path.{_≡_};
 ghost use Prim.Native.Nat.{_≤_};
 ghost use Rattle.arcs.specs.Arcs as spec;
@@ -69,4 +73,130 @@ const ARCTANGENT: [f64; 20] = [
 pub struct SineCosine {
     pub sine: f64,
     pub cosine: f64,
+}
+
+// How many of E, 3E, 5E, 7E lie below a.
+fn quarters(a: f64) -> u32
+    ensures { λ r. ⌜ r ≡ spec.quarters a ⌝ }
+{
+    (E < a) as u32 + (3.0 * E < a) as u32 + (5.0 * E < a) as u32 + (7.0 * E < a) as u32
+}
+
+// Sine and cosine after q turns of π/2.
+fn turned(q: u32, s: f64, c: f64) -> SineCosine
+    ensures { λ r. ⌜ r ≡ spec.turned q s c ⌝ }
+{
+    match q {
+        0 => SineCosine { sine: s, cosine: c },
+        1 => SineCosine {
+            sine: c,
+            cosine: -s,
+        },
+        2 => SineCosine {
+            sine: -s,
+            cosine: -c,
+        },
+        3 => SineCosine {
+            sine: -c,
+            cosine: s,
+        },
+        _ => SineCosine { sine: s, cosine: c },
+    }
+}
+
+// Sine and cosine of a finite t ≥ 0.
+fn sine_cosine_of(t: f64) -> SineCosine
+    ensures { λ r. ⌜ r ≡ spec.sineCosineOf t ⌝ }
+{
+    let a = t % T;
+    let q = quarters(a);
+    let b = a - q as f64 * H;
+    let z = b * b;
+    turned(q, b * horner(&SINE, z), horner(&COSINE, z))
+}
+
+// Sine and cosine of one argument together; NaNs where it is not finite or below 0.
+pub fn sine_cosine(t: f64) -> SineCosine
+    ensures { λ r. ⌜ r ≡ spec.sineCosine t ⌝ }
+{
+    if is_finite(t) && !(t < 0.0) {
+        sine_cosine_of(t)
+    } else {
+        SineCosine {
+            sine: 0.0 / 0.0,
+            cosine: 0.0 / 0.0,
+        }
+    }
+}
+
+#[no_mangle]
+pub extern "C" fn sine(t: f64) -> f64
+    ensures { λ r. ⌜ r ≡ spec.sine t ⌝ }
+{
+    let r = sine_cosine(t);
+    r.sine
+}
+
+#[no_mangle]
+pub extern "C" fn cosine(t: f64) -> f64
+    ensures { λ r. ⌜ r ≡ spec.cosine t ⌝ }
+{
+    let r = sine_cosine(t);
+    r.cosine
+}
+
+// The series of the arctangent through (v * v)^19.
+fn series(v: f64) -> f64
+    ensures { λ r. ⌜ r ≡ spec.series v ⌝ }
+{
+    v * horner(&ARCTANGENT, v * v)
+}
+
+// The arctangent of a ratio from 0 to 1.
+fn of_ratio(u: f64) -> f64
+    ensures { λ r. ⌜ r ≡ spec.ofRatio u ⌝ }
+{
+    if ROOT_TWO_LESS < u {
+        E + series((u - 1.0) / (u + 1.0))
+    } else {
+        series(u)
+    }
+}
+
+// The smaller magnitude over the larger; 0 where both are 0.
+fn ratio(small: f64, large: f64) -> f64
+    ensures { λ r. ⌜ r ≡ spec.ratio small large ⌝ }
+{
+    if large == 0.0 { 0.0 } else { small / large }
+}
+
+// The arctangent of two magnitudes.
+fn of_magnitudes(y: f64, x: f64) -> f64
+    ensures { λ r. ⌜ r ≡ spec.ofMagnitudes y x ⌝ }
+{
+    if x < y {
+        H - of_ratio(ratio(x, y))
+    } else {
+        of_ratio(ratio(y, x))
+    }
+}
+
+// The arctangent of two finite doubles, with the signs of both.
+fn arctangent_of(y: f64, x: f64) -> f64
+    ensures { λ r. ⌜ r ≡ spec.arctangentOf y x ⌝ }
+{
+    let w = of_magnitudes(abs(y), abs(x));
+    let p = if negative(x) { P - w } else { w };
+    if negative(y) { -p } else { p }
+}
+
+#[no_mangle]
+pub extern "C" fn arctangent(y: f64, x: f64) -> f64
+    ensures { λ r. ⌜ r ≡ spec.arctangent y x ⌝ }
+{
+    if is_finite(y) && is_finite(x) {
+        arctangent_of(y, x)
+    } else {
+        0.0 / 0.0
+    }
 }

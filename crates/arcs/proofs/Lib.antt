@@ -1,0 +1,2 @@
+pub mod HornerSteps
+pub mod NanQuotient
