@@ -37,9 +37,14 @@ seven = mul binary64 (ofBits binary64 0x401C_0000_0000_0000) quarterPi
 abbrev pub rootTwoLess : Float
 rootTwoLess = ofBits binary64 0x3FDA_8279_99FC_EF32
 
+-- 1 where the edge lies below a, else 0
+unfoldable pub passed : Float → Float → ℕ
+passed edge a = cond (lt edge a) 1 0
+
 -- q: how many of E, 3E, 5E, 7E lie below a
 unfoldable pub quarters : Float → ℕ
-quarters a = cond (lt quarterPi a) 1 0 + cond (lt three a) 1 0 + cond (lt five a) 1 0 + cond (lt seven a) 1 0
+unfolding passed
+quarters a = passed quarterPi a + passed three a + passed five a + passed seven a
 
 abbrev pub both : Float → Float → SineCosine
 both s c = record { sine = s; cosine = c }

@@ -75,11 +75,19 @@ pub struct SineCosine {
     pub cosine: f64,
 }
 
+// 1 where the edge lies below a, else 0.
+fn passed(edge: f64, a: f64) -> u32
+    ensures { λ r. ⌜ r ≡ spec.passed edge a ⌝ }
+    ensures { λ r. ⌜ r ≤ 1 ⌝ }
+{
+    (edge < a) as u32
+}
+
 // How many of E, 3E, 5E, 7E lie below a.
 fn quarters(a: f64) -> u32
     ensures { λ r. ⌜ r ≡ spec.quarters a ⌝ }
 {
-    (E < a) as u32 + (3.0 * E < a) as u32 + (5.0 * E < a) as u32 + (7.0 * E < a) as u32
+    passed(E, a) + passed(3.0 * E, a) + passed(5.0 * E, a) + passed(7.0 * E, a)
 }
 
 // Sine and cosine after q turns of π/2.
