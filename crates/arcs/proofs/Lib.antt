@@ -1,2 +1,1 @@
-pub mod HornerSteps
 pub mod NanQuotient
