@@ -1,1 +1,3 @@
 pub mod NanQuotient
+pub mod RoundSelf
+pub mod Remainder

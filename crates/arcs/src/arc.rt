@@ -6,6 +6,7 @@ use numbers::is_finite;
 use numbers::negative;
 ghost use mathlib.Core.Path.{_≡_};
 ghost use Prim.Native.Nat.{_≤_};
+ghost use lib.Ieee.{binary64, rem};
 ghost use Rattle.arcs.specs.Arcs as spec;
 
 // 2π, π, π/2, π/4
@@ -112,11 +113,18 @@ fn turned(q: u32, s: f64, c: f64) -> SineCosine
     }
 }
 
+// The remainder by T. Up to T it is t itself, and the division is left out.
+fn reduced(t: f64) -> f64
+    ensures { λ r. ⌜ r ≡ rem binary64 t spec.tau ⌝ }
+{
+    if 0.0 <= t && t < T { t } else { t % T }
+}
+
 // Sine and cosine of a finite t ≥ 0.
 fn sine_cosine_of(t: f64) -> SineCosine
     ensures { λ r. ⌜ r ≡ spec.sineCosineOf t ⌝ }
 {
-    let a = t % T;
+    let a = reduced(t);
     let q = quarters(a);
     let b = a - q as f64 * H;
     let z = b * b;
