@@ -1,0 +1,4 @@
+pub mod Coefs
+pub mod Arcs
+pub mod Nearest
+pub mod Figures

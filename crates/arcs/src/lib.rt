@@ -1,0 +1,4 @@
+// The root, sine, cosine and arctangent.
+
+pub mod arc;
+pub mod horner;
