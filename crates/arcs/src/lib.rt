@@ -1,0 +1,1 @@
+// The square root, sine, cosine and arctangent of doubles.
