@@ -5,7 +5,7 @@ use Prim.Native.Nat.{ℕ, zero, suc, _+_, _-_, _*_, _/_, _^_, _≤_, _<_, zero-l
 use mathlib.Core.Path.{_≡_, refl, sym, ap, subst, _∙_}
 use mathlib.Core.Logic.{_⊎_, inl, inr}
 use mathlib.Core.Bool.{Bool, true, false, not, cond}
-use native.Mathlib.Nat.{eq-or-lt-of-le, le-add-left, zero-lt-suc, mul-lt-mul-of-pos-right, le-of-eq, le-of-suc-le-suc, one-mul, mul-le-mul-right, pow-succ', le-of-mul-le-mul-right, lt-of-mul-lt-mul-right, sub-add-cancel, suc-ne-zero, le-trans, lt-of-lt-of-le, lt-of-le-of-lt, lt-of-not-le, not-le-of-lt, mul-comm, mul-assoc, mul-left-comm, mul-le-mul, mul-pos, mul-div-cancel}
+use native.Mathlib.Nat.{eq-or-lt-of-le, le-add-left, zero-lt-suc, mul-lt-mul-of-pos-right, le-of-eq, one-mul, mul-le-mul-right, pow-succ', le-of-mul-le-mul-right, lt-of-mul-lt-mul-right, sub-add-cancel, suc-ne-zero, le-trans, lt-of-lt-of-le, lt-of-le-of-lt, lt-of-not-le, not-le-of-lt, mul-comm, mul-assoc, mul-left-comm, mul-le-mul, mul-pos, mul-div-cancel}
 use native.Mathlib.Decide.{decLe}
 use native.Mathlib.Omega.{arith}
 use lib.IntN.{ℤ}
@@ -19,7 +19,7 @@ use lib.Ieee.Exact.{units-val}
 use lib.Ieee.Nearest.{div-same}
 use lib.Ieee.Positive.{num, den, positive, first-pos}
 use Rattle.arcs.specs.Root.{isqrt, nearestWhole, root, NearestRoot, CorrectRoot}
-use Rattle.arcs.specs.RootNearest.{swap, positive-fromZero, WholeRoot, digits, held, nearest}
+use Rattle.arcs.specs.RootNearest.{at-most, swap, positive-fromZero, WholeRoot, digits, held, nearest}
 
 -- ● the root of 2
 pub root-of-two : toBits binary64 (root (ofBits binary64 0x4000_0000_0000_0000)) ≡ 0x3FF6_A09E_667F_3BCD
@@ -73,17 +73,6 @@ nearestWhole-root m h k = halved m (isqrt 54 (4 * m)) ((isqrt 54 (4 * m) + 1) / 
   where
     quadruple : (a b : ℕ) → a < b → 4 * a < 4 * b
     quadruple a b l = omega arith
-
-at-most : (m q b : ℕ) → WholeRoot m q → m < b * b → q ≤ b
-at-most m zero b w h = zero-le
-at-most m (suc p) b w h = go (decLe (suc p) b)
-  where
-    not-more : b ≤ p → ⊥
-    not-more l = omega (arith, mul-le-mul l l, w .low)
-
-    go : Dec (suc p ≤ b) → suc p ≤ b
-    go (yes l) = l
-    go (no f) = absurd (not-more (le-of-suc-le-suc (lt-of-not-le f)))
 
 -- ---- the digits that a double drops
 
@@ -157,7 +146,7 @@ rootOf-correct x n a j ex e pa sa lj small =
     (units-fits (nearestWhole m) k top, nearest x (rootOf n) m (nearestWhole m) k (units-val binary64 false (nearestWhole m) k bound) (ex ∙ ap (λ (y : ℕ). y * den x) (t .exact)) (t .big) w)
 
 -- twice as many places below the point
-doubled : (c a j d l : ℕ) → c * 2 ^ l ≡ a * 2 ^ j * d → c * (2 ^ l * 2 ^ l) ≡ a * 2 ^ (j + l) * d
+pub doubled : (c a j d l : ℕ) → c * 2 ^ l ≡ a * 2 ^ j * d → c * (2 ^ l * 2 ^ l) ≡ a * 2 ^ (j + l) * d
 doubled c a j d l h = sym (mul-assoc c (2 ^ l) (2 ^ l)) ∙ ap (λ (z : ℕ). z * 2 ^ l) h ∙ simp (pow-add, mul-comm, mul-left-comm)
 
 -- n * d is c * q, and c is below b * d

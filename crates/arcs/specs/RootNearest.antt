@@ -1,11 +1,11 @@
 -- A double of q * 2 ^ k times 2 ^ -1074 is the one nearest to √x where q is the whole number nearest to √m and x is m * 4 ^ k times 4 ^ -1074, for an m of at least 105 binary digits.
 -- A double y other than it is a multiple of 2 ^ k too, and then at least 2 ^ k away, or it lies below 2 ^ 52 * 2 ^ k; either way x lies on the right side of the midpoint's square.
 -- Assumes nothing.
-use Prim.Native.Nat.{ℕ, zero, suc, _+_, _-_, _*_, _%_, _^_, _≤_, _<_}
+use Prim.Native.Nat.{ℕ, zero, suc, _+_, _-_, _*_, _%_, _^_, _≤_, _<_, zero-le}
 use mathlib.Core.Path.{_≡_, refl, sym, ap, subst, _∙_}
 use mathlib.Core.Logic.{_⊎_, inl, inr}
 use mathlib.Core.Bool.{Bool, true, false, _&&_}
-use native.Mathlib.Nat.{sub-add-cancel, le-of-eq, mul-le-mul-left, le-trans, le-of-lt, lt-of-lt-of-le, lt-of-not-le, not-le-of-lt, eq-or-lt-of-le, le-dest, mul-one, zero-mul, mul-comm, mul-assoc, mul-left-comm, add-mul, mul-le-mul, mul-le-mul-right, mul-lt-mul-of-pos-right, lt-of-mul-lt-mul-right, mul-pos, pow-succ'}
+use native.Mathlib.Nat.{le-of-suc-le-suc, sub-add-cancel, le-of-eq, mul-le-mul-left, le-trans, le-of-lt, lt-of-lt-of-le, lt-of-not-le, not-le-of-lt, eq-or-lt-of-le, le-dest, mul-one, zero-mul, mul-comm, mul-assoc, mul-left-comm, add-mul, mul-le-mul, mul-le-mul-right, mul-lt-mul-of-pos-right, lt-of-mul-lt-mul-right, mul-pos, pow-succ'}
 use native.Mathlib.Decide.{decLe}
 use native.Mathlib.Omega.{arith}
 use lib.IntN.{ℤ, pos, negsuc}
@@ -37,7 +37,7 @@ under m (suc p) s w h =
     let t : s ≤ 2 * p + 1 = omega arith in
     omega (arith, mul-le-mul t t)
 
-at-least : (m q b : ℕ) → WholeRoot m q → b * b ≤ m → b ≤ q
+pub at-least : (m q b : ℕ) → WholeRoot m q → b * b ≤ m → b ≤ q
 at-least m q b w h = go (decLe b q)
   where
     not-less : suc q ≤ b → ⊥
@@ -46,6 +46,17 @@ at-least m q b w h = go (decLe b q)
     go : Dec (b ≤ q) → b ≤ q
     go (yes l) = l
     go (no f) = absurd (not-less (lt-of-not-le f))
+
+pub at-most : (m q b : ℕ) → WholeRoot m q → m < b * b → q ≤ b
+at-most m zero b w h = zero-le
+at-most m (suc p) b w h = go (decLe (suc p) b)
+  where
+    not-more : b ≤ p → ⊥
+    not-more l = omega (arith, mul-le-mul l l, w .low)
+
+    go : Dec (suc p ≤ b) → suc p ≤ b
+    go (yes l) = l
+    go (no f) = absurd (not-more (le-of-suc-le-suc (lt-of-not-le f)))
 
 scale : (a b p : ℕ) → a < b → 0 < p → a * (p * p) < b * (p * p)
 scale a b p h k = mul-lt-mul-of-pos-right h (mul-pos k k)

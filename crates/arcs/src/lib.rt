@@ -1,1 +1,2 @@
 // The square root, sine, cosine and arctangent of doubles.
+pub mod root;
