@@ -2,3 +2,4 @@
 
 pub mod arc;
 pub mod horner;
+pub mod root;
