@@ -61,21 +61,9 @@ impl M3 {
         ensures { λ r. ⌜ vec r ≡ spec.col (spec.mat self) i ⌝ }
     {
         match i {
-            0 => Vec3 {
-                x: self.r0.x,
-                y: self.r1.x,
-                z: self.r2.x,
-            },
-            1 => Vec3 {
-                x: self.r0.y,
-                y: self.r1.y,
-                z: self.r2.y,
-            },
-            _ => Vec3 {
-                x: self.r0.z,
-                y: self.r1.z,
-                z: self.r2.z,
-            },
+            0 => Vec3::new(self.r0.x, self.r1.x, self.r2.x),
+            1 => Vec3::new(self.r0.y, self.r1.y, self.r2.y),
+            _ => Vec3::new(self.r0.z, self.r1.z, self.r2.z),
         }
     }
 
