@@ -7,7 +7,7 @@ root-requires : tie.Need-root-requires
 root-requires c κs = tt
 
 returns : tie.Need-returns
-returns c = correct-is-root (c .before .args .x) (c .root .result) (rw (c .before .good .0 .1) tt) (c .root .ensures)
+returns c = correct-is-root (rw (c .before .good .0 .1) tt) (c .root .ensures)
 
 pub sqrt-spec : {M : Type 1} → statement M
 sqrt-spec = tie.close (tie.spec root-requires returns)

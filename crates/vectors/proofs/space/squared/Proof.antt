@@ -1,7 +1,7 @@
 -- `vectors::space::squared` meets its contract. Assumes nothing.
 use mathlib.Core.Path.{_≡_}
-use mathlib.Core.Bool.{false}
-use mathlib.Core.Option.{Option, some}
+use mathlib.Core.Bool.{true, false}
+use mathlib.Core.Option.{Option, none, some}
 use lib.Ieee.{Float, le}
 use Rattle.numbers.specs.Ops.{doubles}
 use Rattle.vectors.specs.Tol.{LINEAR}
@@ -9,6 +9,9 @@ use Rattle.vectors.specs.Vec.{Vec, len, normalized, cross}
 use Rattle.vectors.specs.Space.{Frame, squared}
 use Rattle.vectors.proofs.space.squared.Statement.{statement}
 use Rattle.vectors.proofs.space.squared.Tie as tie
+
+short : (o z x : Vec Float) (l : Float) → l ≡ len x → le l LINEAR ≡ true → _≡_ {A = Option Frame} none (squared o z x)
+short o z x l el test = rw (← el, test)
 
 long :
     (o z x u y : Vec Float)
@@ -18,13 +21,13 @@ long :
     u ≡ normalized x →
     y ≡ cross doubles z u →
     _≡_ {A = Option Frame} (some (record { origin = o; x = u; y = y; z = z })) (squared o z x)
-long o z x u y l el short eu ey = rw (← el, short, ey, eu)
+long o z x u y l el test eu ey = rw (← el, test, ey, eu)
 
 len-requires : tie.Need-len-requires
 len-requires c κs = tt
 
 returns : tie.Need-returns
-returns c = rw (← (c .before .len .ensures), c .if1 .taken)
+returns c = short _ _ _ _ (c .before .len .ensures) (c .if1 .taken)
 
 normalized-requires : tie.Need-normalized-requires
 normalized-requires c κs = tt

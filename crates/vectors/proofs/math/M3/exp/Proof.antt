@@ -1,17 +1,22 @@
 -- `vectors::math::M3::exp` meets its contract. Assumes nothing.
 use mathlib.Core.Path.{_≡_, _∙_}
-use mathlib.Core.Bool.{false}
+use mathlib.Core.Bool.{true, false}
 use lib.Ieee.{Float, binary64, sub, div, lt, ofBits}
 use Rattle.numbers.specs.Ops.{doubles}
 use Rattle.numbers.specs.Double.{one64}
 use Rattle.arcs.specs.declared.arc.SineCosine.{SineCosine}
 use Rattle.arcs.specs.Arcs.{sineCosine}
 use Rattle.vectors.specs.Vec.{Vec, scaleV, len}
-use Rattle.vectors.specs.Math.{rodrigues, exp}
+use Rattle.vectors.specs.Math.{linear, rodrigues, exp}
 use Rattle.vectors.proofs.math.M3.exp.Statement.{statement}
 use Rattle.vectors.proofs.math.M3.exp.Tie as tie
 
--- from a length of 1e-12
+-- below a length of 1e-12
+straight : (w : Vec Float) (t : Float) → t ≡ len w → lt t (ofBits binary64 0x3D71_9799_812D_EA11) ≡ true → linear w ≡ exp w
+unfolding exp
+straight w t et near = rw (← et, near)
+
+-- from 1e-12 on
 turned :
     (w k : Vec Float)
     (t : Float)
@@ -31,8 +36,7 @@ linear-requires : tie.Need-linear-requires
 linear-requires c κs = tt
 
 returns : tie.Need-returns
-unfolding exp
-returns c = rw (← (c .before .before .len .ensures), c .before .if1 .taken) (c .linear .ensures)
+returns c = c .linear .ensures ∙ straight _ _ (c .before .before .len .ensures) (c .before .if1 .taken)
 
 scale-requires : tie.Need-scale-requires
 scale-requires c κs = tt
