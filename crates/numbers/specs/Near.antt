@@ -66,6 +66,7 @@ round-close f w t i s r c L C below fine =
     scale r A S B c pA h = simp ring (simp ring at (mul-lt-mul-of-pos-right h pA))
 
 -- ---- the unit of bounds, and a bound
+-- bounds count units of 2 ^ -80: half a last place of a double from 1 to 2 is 2 ^ 27 of them, and a smaller value is charged one unit at least
 unfoldable pub S : ℕ
 S = 2 ^ 80
 
