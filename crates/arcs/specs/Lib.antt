@@ -1,4 +1,6 @@
 pub mod Coefs
 pub mod Arcs
 pub mod Nearest
+pub mod Magnitudes
+pub mod Range
 pub mod Figures
