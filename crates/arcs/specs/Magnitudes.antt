@@ -1,16 +1,17 @@
 -- Bounds on magnitudes through one rounded operation: rounding is monotone, so that a fraction below a double rounds to no more than that double. Assumes nothing.
 use Prim.Native.Nat.{ℕ, zero, suc, _+_, _-_, _*_, _^_, _≤_, _<_}
-use native.Mathlib.Nat.{le-of-eq, mul-le-mul, mul-le-mul-right, le-of-mul-le-mul-right, le-trans, mul-pos}
+use native.Mathlib.Nat.{le-of-eq, mul-le-mul, mul-le-mul-right, le-of-mul-le-mul-right, le-trans, mul-pos, zero-mul}
 use native.Mathlib.Omega.{arith}
 use mathlib.Core.Path.{_≡_, refl, sym, subst}
 use mathlib.Core.Logic.{_⊎_, inl, inr, ⊎-elim}
 use mathlib.Core.Bool.{Bool, true, false, _&&_, _||_, cond}
 use lib.IntN.{ℤ}
 use lib.Dec.{T, ltb, eqb, ltb→lt, eqb→eq}
-use lib.Ieee.{Float, nan, inf, fin, Format, binary64, prec, low, emax, up, down, round, units, odd, sum, add, sub, mul, neg, lt, le, eq}
-use lib.Ieee.Fits.{down-pos, round-is}
+use lib.Ieee.{Float, nan, inf, fin, Format, binary64, prec, low, emax, up, down, round, units, odd, sum, add, sub, mul, div, neg, lt, le, eq}
+use lib.Ieee.Fits.{up-pos, down-pos, round-is}
 use lib.Ieee.Order.{round-mono}
 use lib.Ieee.Positive.{through}
+use borrow.Author.Tests.{ne-eqb}
 use Rattle.numbers.specs.Close.{ring}
 
 -- x is finite, of magnitude at most p / r
@@ -88,3 +89,49 @@ unfolding mul
 square-at-most p r P R nan n d h H k q l a = a
 square-at-most p r P R (inf s) n d h H k q l a = absurd a
 square-at-most p r P R (fin s m e) n d h H k q l a = round-at-most P R binary64 _ _ _ n d (mul-pos (down-pos e) (down-pos e)) H (squares (m * up e) (down e) p r P R h a k) q l
+
+-- ---- a bound from below
+-- x is finite, without a sign, at least p / r
+abbrev pub AtLeast : ℕ → ℕ → Float → Type 0
+AtLeast p r nan = ⊥
+AtLeast p r (inf s) = ⊥
+AtLeast p r (fin true m e) = ⊥
+AtLeast p r (fin false m e) = p * down e ≤ m * up e * r
+
+module _ (p r : ℕ) where
+  above : (f : Format) (q k n : ℕ) (d : ℤ) (P R : ℕ) → T (le (fin false n d) (units f false q k)) → p * down d ≤ n * up d * r → AtMostOf P R (units f false q k) → AtLeast p r (units f false q k)
+  unfolding units odd le lt eq
+  above f q k n d P R h l a = go (ltb (q * 2 ^ k) (2 ^ (low f + suc (emax f)))) q h a
+    where
+      go : (t : Bool) (q : ℕ) → T (le (fin false n d) (cond t (odd (suc (prec f)) false q k (low f)) (inf false))) → AtMostOf P R (cond t (odd (suc (prec f)) false q k (low f)) (inf false)) → AtLeast p r (cond t (odd (suc (prec f)) false q k (low f)) (inf false))
+      go true zero h a = through p (n * up d) _ r (down d) _ (down-pos d) l (le-says _ _ _ h)
+      go true (suc q) h a = through p (n * up d) _ r (down d) _ (down-pos d) l (le-says _ _ _ h)
+      go false q h a = absurd a
+
+  pub round-at-least : (f : Format) (a b n : ℕ) (d : ℤ) (P R : ℕ) → 0 < b → 0 < r → p * b ≤ a * r → round f false p r ≡ fin false n d → p * down d ≤ n * up d * r → AtMostOf P R (round f false a b) → AtLeast p r (round f false a b)
+  round-at-least f a b n d P R B H h e l m =
+      rw (round-is f false a b)
+      (above f _ _ n d P R (rw (e, round-is f false a b) at (round-mono f p r a b H B h)) l (rw (round-is f false a b) at m))
+
+-- ---- a quotient
+quotient : (x y z w p r k l P R : ℕ) → 0 < k * r → x * r ≤ p * y → k * w ≤ z * l → p * l * R ≤ P * (k * r) → x * w * R ≤ P * (z * y)
+quotient x y z w p r k l P R h a b c =
+    le-of-mul-le-mul-right (le-trans (le-trans (le-of-eq (simp ring)) (mul-le-mul-right R (mul-le-mul a b))) (le-trans (le-of-eq (simp ring)) (le-trans (mul-le-mul-right (z * y) c) (le-of-eq (simp ring))))) h
+
+not-zero : (n k l : ℕ) (d : ℤ) → 0 < k → k * down d ≤ n * up d * l → n ≡ 0 → ⊥
+not-zero n k l d h b e = let p = mul-pos h (down-pos d) in omega (arith, rw (e, zero-mul (up d), zero-mul l) at b)
+
+-- at most p / r over at least k / l
+pub div-at-most : (p r k l P R : ℕ) (x y : Float) (n : ℕ) (d : ℤ) → 0 < k → 0 < r → 0 < R → p * l * R ≤ P * (k * r) → round binary64 false P R ≡ fin false n d → n * up d * R ≤ P * down d
+    → AtMostOf p r x → AtLeast k l y → AtMostOf P R (div binary64 x y)
+unfolding div
+div-at-most p r k l P R nan y n d K H Q c q u a b = absurd a
+div-at-most p r k l P R (inf s) y n d K H Q c q u a b = absurd a
+div-at-most p r k l P R (fin s m e) nan n d K H Q c q u a b = absurd b
+div-at-most p r k l P R (fin s m e) (inf t) n d K H Q c q u a b = absurd b
+div-at-most p r k l P R (fin s m e) (fin true j g) n d K H Q c q u a b = absurd b
+div-at-most p r k l P R (fin s m e) (fin false j g) n d K H Q c q u a b =
+    let z = not-zero j k l g K b in
+    let J : 0 < j = omega (arith, z) in
+    rw (ne-eqb j 0 z)
+    (round-at-most P R binary64 _ _ _ n d (mul-pos (mul-pos J (up-pos g)) (down-pos e)) Q (quotient (m * up e) (down e) (j * up g) (down g) p r k l P R (mul-pos K H) a b c) q u)

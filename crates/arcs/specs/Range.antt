@@ -1,18 +1,18 @@
--- Where the arguments of the polynomials lie: b is at most 101/128 in magnitude and z at most 5/8 for every finite t without the sign bit. The count q puts a
--- between two odd multiples of E, 884279719003555 / 2 ^ 50, whose middle is q * H. Assumes nothing.
+-- Where the arguments of the polynomials lie. b is at most 101/128 in magnitude and z at most 5/8 for every finite t without the sign bit: the count q puts a
+-- between two odd multiples of E, 884279719003555 / 2 ^ 50, whose middle is q * H. v * v is at most 3/16 for every ratio u from 0 to 1. Assumes nothing.
 use Prim.Native.Nat.{ℕ, suc, _+_, _-_, _*_, _%_, _≤_, _<_}
-use native.Mathlib.Nat.{mod-lt, mul-pos, le-refl}
+use native.Mathlib.Nat.{mod-lt, mul-pos, le-refl, zero-mul}
 use native.Mathlib.Omega.{arith}
 use mathlib.Core.Path.{_≡_, refl, ap}
 use mathlib.Core.Bool.{Bool, true, false, cond, true≢false, false≢true}
 use lib.IntN.{ℤ, pos, negsuc}
 use lib.Dec.{T, ltb}
-use lib.Ieee.{Float, nan, inf, fin, binary64, up, down, round, rem, sub, mul, lt, ofInt, ofBits}
-use lib.Ieee.Fits.{down-pos}
-use borrow.Author.Tests.{lt-ltb, le-ltb, ltb-true, ltb-false}
-use Rattle.numbers.specs.Double.{isFinite, negative}
-use Rattle.arcs.specs.Arcs.{tau, halfPi, quarters, passed, fromTurn}
-use Rattle.arcs.specs.Magnitudes.{AtMostOf, round-at-most, of-round, sub-at-most, square-at-most}
+use lib.Ieee.{Float, nan, inf, fin, binary64, up, down, round, rem, sum, add, sub, mul, div, lt, eq, ofInt, ofBits}
+use lib.Ieee.Fits.{up-pos, down-pos}
+use borrow.Author.Tests.{lt-ltb, le-ltb, ltb-true, ltb-false, eq-eqb, ne-eqb}
+use Rattle.numbers.specs.Double.{zero64, one64, isFinite, negative}
+use Rattle.arcs.specs.Arcs.{tau, halfPi, rootTwoLess, ratio, quarters, passed, fromTurn}
+use Rattle.arcs.specs.Magnitudes.{AtMostOf, round-at-most, of-round, sub-at-most, square-at-most, round-at-least, div-at-most}
 
 module _ (m : ℕ) (e : ℤ) where
   -- whether the edge k * E lies below
@@ -91,3 +91,49 @@ turn-at-most (fin false m e) h s =
 pub turn-square : (t : Float) → isFinite t ≡ true → negative t ≡ false → (let b = fromTurn (rem binary64 t tau) in AtMostOf 5 8 (mul binary64 b b))
 unfolding round
 turn-square t h s = square-at-most 101 128 5 8 _ 5 (negsuc 2) (omega arith) (omega arith) (omega arith) refl (le-refl _) (turn-at-most t h s)
+
+-- ---- the arctangent's v: u itself up to √2 - 1, and (u - 1) / (u + 1) above
+abbrev pub folded : Float → Float
+folded u = div binary64 (sub binary64 u one64) (add binary64 u one64)
+
+pub record Series-small (u : Float) : Type 0 where
+  pub up-to : lt rootTwoLess u ≡ false → AtMostOf 3 16 (mul binary64 u u)
+  pub beyond : lt rootTwoLess u ≡ true → AtMostOf 3 16 (mul binary64 (folded u) (folded u))
+
+fourteenth : (x : Float) → AtMostOf 55 128 x → AtMostOf 3 16 (mul binary64 x x)
+unfolding round
+fourteenth x h = square-at-most 55 128 3 16 x 3 (negsuc 3) (omega arith) (omega arith) (omega arith) refl (le-refl _) h
+
+folded-small : (m : ℕ) (e : ℤ) → m * up e * 1 ≤ 1 * down e → 3730904090310553 * down e < m * up e * 9007199254740992 → AtMostOf 55 128 (folded (fin false m e))
+unfolding ofBits round add sum
+folded-small m e top low =
+    let D = down-pos e in
+    let n = sub-at-most 19 32 m 1 e (pos 0) 19 (negsuc 4) (omega arith) (omega arith) (omega arith) refl (le-refl _) in
+    let a = round-at-most 2 1 binary64 false (m * up e * 1 + 1 * down e) (down e * 1) 1 (pos 1) (omega arith) (omega arith) (omega arith) refl (le-refl _) in
+    let b = round-at-least 45 32 binary64 (m * up e * 1 + 1 * down e) (down e * 1) 45 (negsuc 4) 2 1 (omega arith) (omega arith) (omega arith) refl (le-refl _) a in
+    div-at-most 19 32 45 32 55 128 _ _ 55 (negsuc 6) (omega arith) (omega arith) (omega arith) (omega arith) refl (le-refl _) n b
+
+unit-small : (m : ℕ) (e : ℤ) → m * up e * 1 ≤ 1 * down e → Series-small (fin false m e)
+unfolding lt ofBits
+unit-small m e top =
+    record {
+      up-to = λ h. let g : m * up e * 9007199254740992 ≤ 3730904090310553 * down e = ltb-false _ _ h in fourteenth (fin false m e) (omega arith);
+      beyond = λ h. fourteenth _ (folded-small m e top (ltb-true _ _ h));
+    }
+
+-- of two magnitudes, the smaller over the larger
+pub ratio-small : (m n : ℕ) (e d : ℤ) → m * up e * down d ≤ n * up d * down e → Series-small (ratio (fin false m e) (fin false n d))
+unfolding ratio ofBits eq div round
+ratio-small m n e d l = go (eq (fin false n d) zero64) refl
+  where
+    zeros : n ≡ 0 → n * up d * 1 ≡ 0 * down d
+    zeros z = rw (z, zero-mul (up d), zero-mul (down d))
+
+    go : (t : Bool) → eq (fin false n d) zero64 ≡ t → Series-small (cond t zero64 (div binary64 (fin false m e) (fin false n d)))
+    go true h = unit-small 0 (pos 0) (omega arith)
+    go false h =
+        let z : n ≡ 0 → ⊥ = λ z. true≢false (rw (eq-eqb (n * up d * 1) (0 * down d) (zeros z)) at h) in
+        let N : 0 < n = omega (arith, z) in
+        rw (ne-eqb n 0 z)
+        (of-round 1 1 binary64 (m * up e * down d) (n * up d * down e) Series-small unit-small
+        (round-at-most 1 1 binary64 false _ _ 1 (pos 0) (mul-pos (mul-pos N (up-pos d)) (down-pos e)) (omega arith) (omega arith) refl (le-refl _)))
