@@ -1,4 +1,5 @@
 pub mod Frac
 pub mod Double
+pub mod DoubleLaws
 pub mod Ops
 pub mod Horner
