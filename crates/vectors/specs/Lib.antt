@@ -3,4 +3,8 @@ pub mod Vec
 pub mod Space
 pub mod Math
 pub mod Sort
+pub mod SortLaws
+pub mod BeforeLaws
 pub mod Eigen
+pub mod Span
+pub mod Sorted
