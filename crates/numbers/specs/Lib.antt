@@ -3,3 +3,16 @@ pub mod Double
 pub mod DoubleLaws
 pub mod Ops
 pub mod Horner
+pub mod Sum
+pub mod MaxAbs
+pub mod Differs
+pub mod Parts
+pub mod Round
+pub mod Close
+pub mod Near
+pub mod Largest
+pub mod DiffersLaws
+pub mod Bound
+pub mod Loops
+pub mod HornerNear
+pub mod SumNear
