@@ -16,6 +16,9 @@ pub record Turned : Type 0 where
   pub m : List Float
   pub v : List Float
 
+abbrev pub turned : List Float → List Float → Turned
+turned m v = record { m = m; v = v }
+
 abbrev square : Float → Float
 square x = mul binary64 x x
 
@@ -126,4 +129,4 @@ lower a b = before (a .value) (b .value)
 -- the eigenvalues and unit vectors of the symmetric n by n matrix a
 unfoldable pub symEigen : ℕ → List Float → List Eigen
 unfolding pairs sweeps unitTo
-symEigen n a = sort lower (pairs n (sweeps n 100 (record { m = a; v = unitTo n n })) n)
+symEigen n a = sort lower (pairs n (sweeps n 100 (turned a (unitTo n n))) n)

@@ -8,7 +8,7 @@ use Rattle.vectors.specs.Vec.{Vec, len}
 use Rattle.vectors.specs.Sort.{sort}
 use Rattle.vectors.specs.SortLaws.{Order, Ordered, level, keep, order-up, order-down, sort-rearranges, sort-ordered, sort-stable}
 use Rattle.vectors.specs.BeforeLaws.{before-order}
-use Rattle.vectors.specs.Eigen.{Eigen, lower, pairs, sweeps, unitTo, symEigen}
+use Rattle.vectors.specs.Eigen.{Eigen, turned, lower, pairs, sweeps, unitTo, symEigen}
 use Rattle.vectors.specs.Span.{longer}
 
 -- eigenvalues upward by `total_cmp`
@@ -21,7 +21,7 @@ longer-order = order-down before-order len
 
 -- the pairs as the sweeps leave them
 abbrev pub unsorted : ℕ → List Float → List Eigen
-unsorted n a = pairs n (sweeps n 100 (record { m = a; v = unitTo n n })) n
+unsorted n a = pairs n (sweeps n 100 (turned a (unitTo n n))) n
 
 pub eigen-rearranges : (n : ℕ) (a : List Float) → Perm (symEigen n a) (unsorted n a)
 unfolding symEigen

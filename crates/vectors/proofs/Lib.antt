@@ -1,0 +1,4 @@
+-- Laws that belong to no one function.
+pub mod Flat
+pub mod Sorting
+pub mod Eigen6Laws
