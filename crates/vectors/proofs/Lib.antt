@@ -3,3 +3,4 @@ pub mod Flat
 pub mod Sorting
 pub mod Eigen6Laws
 pub mod EigenLaws
+pub mod EigenSortLaws

@@ -8,6 +8,7 @@ pub mod SortLaws
 pub mod BeforeLaws
 pub mod Eigen
 pub mod Flat
+pub mod EigenMemory
 pub mod Eigen6
 pub mod Span
 pub mod Sorted

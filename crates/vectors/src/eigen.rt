@@ -7,6 +7,7 @@ ghost use lib.ListN.{length, take, drop};
 ghost use lib.Dec.{eqb};
 ghost use Rattle.numbers.specs.Double.{zero64, one64};
 ghost use Rattle.vectors.specs.Eigen as spec;
+ghost use Rattle.vectors.specs.EigenMemory as memory;
 use crate::root::sqrt;
 
 // The entry ij of the identity.
@@ -203,4 +204,84 @@ fn sweeps(m: &mut [f64], v: &mut [f64], n: usize)
         }
         sweep(m, v, n);
     }
+}
+
+// Copies the diagonal of m.
+fn diagonal(m: &[f64], vals: &mut [f64], n: usize)
+    requires { ⌜ length (now m) ≡ n * n ⌝ }
+    requires { ⌜ length (now vals) ≡ n ⌝ }
+    ensures { λ _. ⌜ now (vals .exit) ≡ memory.diagonal (now (m .entry)) n n ⌝ }
+{
+    for i in 0..n {
+        vals[i] = m[i * n + i];
+    }
+}
+
+// The entries at i and j change places.
+fn swap(l: &mut [f64], i: usize, j: usize)
+    requires { ⌜ i < length (now l) ⌝ }
+    requires { ⌜ j < length (now l) ⌝ }
+    ensures { λ _. ⌜ now (l .exit) ≡ memory.swapPair (now (l .entry)) i j ⌝ }
+{
+    let x = l[i];
+    let y = l[j];
+    l[i] = y;
+    l[j] = x;
+}
+
+// Columns i and j change places.
+fn swap_columns(l: &mut [f64], n: usize, i: usize, j: usize)
+    requires { ⌜ length (now l) ≡ n * n ⌝ }
+    requires { ⌜ i < n ⌝ }
+    requires { ⌜ j < n ⌝ }
+    ensures { λ _. ⌜ now (l .exit) ≡ memory.swapColumns n i j (now (l .entry)) n ⌝ }
+{
+    for k in 0..n {
+        let o = k * n;
+        swap(l, o + i, o + j);
+    }
+}
+
+// Moves the i-th value with its column forward past those that it stands before.
+fn forward(vals: &mut [f64], v: &mut [f64], n: usize, i: usize)
+    requires { ⌜ length (now vals) ≡ n ⌝ }
+    requires { ⌜ length (now v) ≡ n * n ⌝ }
+    requires { ⌜ i < n ⌝ }
+    ensures { λ _. ⌜ memory.held (now (vals .exit)) (now (v .exit)) ≡ memory.forward n i (memory.held (now (vals .entry)) (now (v .entry))) ⌝ }
+{
+    let mut j = i;
+    while 0 < j {
+        let k = j - 1;
+        if numbers::before(vals[j], vals[k]) {
+            swap(vals, k, j);
+            swap_columns(v, n, k, j);
+            j = k;
+        } else {
+            return;
+        }
+    }
+}
+
+// Sorts the values upward, each with its column.
+fn sort(vals: &mut [f64], v: &mut [f64], n: usize)
+    requires { ⌜ length (now vals) ≡ n ⌝ }
+    requires { ⌜ length (now v) ≡ n * n ⌝ }
+    ensures { λ _. ⌜ memory.held (now (vals .exit)) (now (v .exit)) ≡ memory.sorted n (memory.held (now (vals .entry)) (now (v .entry))) n ⌝ }
+{
+    for i in 0..n {
+        forward(vals, v, n, i);
+    }
+}
+
+// The eigenvalues of the symmetric n by n matrix m into vals, and the unit vectors into the columns of v, in rising order. m is turned on the way.
+pub fn sym_eigen(m: &mut [f64], v: &mut [f64], vals: &mut [f64], n: usize)
+    requires { ⌜ length (now m) ≡ n * n ⌝ }
+    requires { ⌜ length (now v) ≡ n * n ⌝ }
+    requires { ⌜ length (now vals) ≡ n ⌝ }
+    ensures { λ _. ⌜ memory.SymEigen n (now (m .entry)) (now (m .exit)) (now (v .exit)) (now (vals .exit)) ⌝ }
+{
+    unit(v, n);
+    sweeps(m, v, n);
+    diagonal(m, vals, n);
+    sort(vals, v, n);
 }
