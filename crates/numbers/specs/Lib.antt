@@ -1,4 +1,15 @@
 pub mod Frac
 pub mod Double
+pub mod DoubleLaws
 pub mod Ops
 pub mod Horner
+pub mod Sum
+pub mod MaxAbs
+pub mod Differs
+pub mod Parts
+pub mod Round
+pub mod Close
+pub mod Near
+pub mod Largest
+pub mod DiffersLaws
+pub mod Bound
