@@ -5,17 +5,41 @@ use Prim.Native.Nat.{ℕ}
 use mathlib.Core.Bool.{Bool, true, false, _||_, cond}
 use mathlib.Core.List.{List, [], _∷_, _++_}
 use mathlib.Core.Option.{Option, none, some}
+use lib.ListN.{length, take, getD}
 use lib.Ieee.{Float, binary64, add, sub, mul, neg, le, ofBits}
 use Rattle.numbers.specs.Ops.{Ops, doubles}
-use Rattle.numbers.specs.Double.{one64, abs, remEuclid}
+use Rattle.numbers.specs.Double.{zero64, one64, abs, remEuclid}
 use Rattle.arcs.specs.Arcs.{arctangent}
 use Rattle.vectors.specs.Vec.{Vec, zeroV, addV, subV, scaleV, dot, cross, len}
 use Rattle.vectors.specs.Space.{Frame}
 use Rattle.vectors.specs.Math.{Mat, apply, identity, PI}
 use Rattle.solver.specs.Geometry.{Geo, plane, line, point, circle, Pose, vecOf, poseOf, place, placed, directionOf, jointFrame}
 use Rattle.solver.specs.Model.{End, Law, mate, flush, angle, insert, tangent, symmetry, joint, Rel}
+use Rattle.solver.specs.declared.rows.Rows.{Rows}
 use Rattle.solver.specs.declared.model.JointKind.{JointKind}
 use Rattle.solver.specs.declared.model.JointKind.the-variants.{Rigid, Revolute, Slider, Cylindrical, Planar, Ball}
+
+-- ---- rows as the code hands them on
+
+-- the first n of seven
+unfoldable pub rowsOf : Rows → List Float
+rowsOf r = take (r .n) (r .r0 ∷ r .r1 ∷ r .r2 ∷ r .r3 ∷ r .r4 ∷ r .r5 ∷ r .r6 ∷ [])
+
+-- at most seven rows, +0 after them
+unfoldable pub pack : List Float → Rows
+pack l =
+    record {
+      n = length l;
+      r0 = getD l 0 zero64;
+      r1 = getD l 1 zero64;
+      r2 = getD l 2 zero64;
+      r3 = getD l 3 zero64;
+      r4 = getD l 4 zero64;
+      r5 = getD l 5 zero64;
+      r6 = getD l 6 zero64;
+    }
+
+-- ---- what rows are made of
 
 -- 2.0
 abbrev pub two64 : Float

@@ -1,3 +1,11 @@
+// `Prim` of geometry.rs. `specs/Geometry.antt` has the definitions.
+ghost use mathlib.Core.Path.{_≡_};
+ghost use Rattle.numbers.specs.Ops.{doubles};
+ghost use Rattle.vectors.specs.Vec.{vec};
+ghost use Rattle.vectors.specs.Space.{frame};
+ghost use Rattle.vectors.specs.Math.{mat};
+ghost use Rattle.solver.specs.Geometry as spec;
+use vectors::math::M3;
 use vectors::vec::Vec3;
 
 // Geometry that a relation works with.
@@ -16,4 +24,77 @@ pub enum Prim {
         normal: Vec3,
         radius: f64,
     },
+}
+
+// A direction, or none.
+pub enum Direction {
+    Along(Vec3),
+    Nothing,
+}
+
+// r p + t
+pub fn place(r: M3, t: Vec3, p: Vec3) -> Vec3
+    ensures { λ w. ⌜ vec w ≡ spec.place doubles (record { r = mat r; t = vec t }) (vec p) ⌝ }
+{
+    r.apply(p).add(t)
+}
+
+impl Prim {
+    // The same geometry moved by a placement: the rotation r, then the translation t.
+    pub fn placed(self, r: M3, t: Vec3) -> Prim
+        ensures { λ w. ⌜ spec.prim w ≡ spec.placed doubles (record { r = mat r; t = vec t }) (spec.prim self) ⌝ }
+    {
+        match self {
+            Prim::Plane { point, normal } => Prim::Plane {
+                point: place(r, t, point),
+                normal: r.apply(normal),
+            },
+            Prim::Line { point, dir } => Prim::Line {
+                point: place(r, t, point),
+                dir: r.apply(dir),
+            },
+            Prim::Point(p) => Prim::Point(place(r, t, p)),
+            Prim::Circle {
+                center,
+                normal,
+                radius,
+            } => Prim::Circle {
+                center: place(r, t, center),
+                normal: r.apply(normal),
+                radius,
+            },
+        }
+    }
+
+    // A point of the geometry.
+    pub fn point(self) -> Vec3
+        ensures { λ w. ⌜ vec w ≡ spec.pointOf (spec.prim self) ⌝ }
+    {
+        match self {
+            Prim::Plane { point, normal: _ } => point,
+            Prim::Line { point, dir: _ } => point,
+            Prim::Point(p) => p,
+            Prim::Circle {
+                center,
+                normal: _,
+                radius: _,
+            } => center,
+        }
+    }
+
+    // The plane's normal, the line's direction or the circle's axis.
+    pub fn direction(self) -> Direction
+        ensures { λ w. ⌜ spec.direction w ≡ spec.directionOf (spec.prim self) ⌝ }
+    {
+        match self {
+            Prim::Plane { point: _, normal } => Direction::Along(normal),
+            Prim::Line { point: _, dir } => Direction::Along(dir),
+            Prim::Point(_) => Direction::Nothing,
+            Prim::Circle {
+                center: _,
+                normal,
+                radius: _,
+            } => Direction::Along(normal),
+        }
+    }
 }
