@@ -13,3 +13,6 @@ pub mod Near
 pub mod Largest
 pub mod DiffersLaws
 pub mod Bound
+pub mod Loops
+pub mod HornerNear
+pub mod SumNear
