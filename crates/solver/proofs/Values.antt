@@ -7,6 +7,11 @@ use Rattle.vectors.specs.declared.space.Frame.{Frame as FrameStruct}
 use Rattle.vectors.specs.Vec.{Vec, vec}
 use Rattle.vectors.specs.Space.{Frame, frame}
 use Rattle.vectors.specs.Math.{Mat, mat}
+use Rattle.solver.specs.declared.model.Pose.{Pose as PoseStruct}
+use Rattle.solver.specs.declared.rows.JointAt.{JointAt as JointStruct}
+use Rattle.solver.specs.Geometry.{Pose}
+use Rattle.solver.specs.Model.{pose}
+use Rattle.solver.specs.Rows.{JointAt, jointOf}
 
 abbrev pub vec3 : Vec Float → Vec3
 vec3 v = record { x = v .x; y = v .y; z = v .z }
@@ -25,3 +30,9 @@ mat-is e = ap m3 e
 
 pub frame-is : {a : FrameStruct} {n : Frame} → frame a ≡ n → a ≡ frame3 n
 frame-is e = ap frame3 e
+
+pub pose-is : {a : PoseStruct} {n : Pose Float} → pose a ≡ n → a ≡ record { r = m3 (n .r); t = vec3 (n .t) }
+pose-is e = ap (λ n. record { r = m3 (n .r); t = vec3 (n .t) }) e
+
+pub joint-is : {a : JointStruct} {n : JointAt} → jointOf a ≡ n → a ≡ record { o = vec3 (n .o); x = vec3 (n .x); z = vec3 (n .z) }
+joint-is e = ap (λ n. record { o = vec3 (n .o); x = vec3 (n .x); z = vec3 (n .z) }) e

@@ -2,10 +2,12 @@
 ghost use mathlib.Core.Path.{_≡_};
 ghost use Rattle.numbers.specs.Ops.{doubles};
 ghost use Rattle.vectors.specs.Vec.{vec};
-ghost use Rattle.vectors.specs.Space.{frame};
+ghost use Rattle.vectors.specs.Space.{frame, made, world};
 ghost use Rattle.vectors.specs.Math.{mat};
 ghost use Rattle.solver.specs.Geometry as spec;
 use vectors::math::M3;
+use vectors::space::Frame;
+use vectors::space::NewFrame;
 use vectors::vec::Vec3;
 
 // Geometry that a relation works with.
@@ -96,5 +98,33 @@ impl Prim {
                 radius: _,
             } => Direction::Along(normal),
         }
+    }
+
+    // The frame that a joint takes from this geometry: its point, Z along its direction (for a point the part's Z, or the image of that on a mirrored
+    // part), X chosen from Z alone.
+    pub fn joint_frame(self, mirrored: bool) -> Frame
+        ensures { λ w. ⌜ frame w ≡ spec.jointFrame (spec.prim self) mirrored ⌝ }
+    {
+        let z = joint_axis(self.direction(), mirrored);
+        frame_or_world(Frame::from_normal(self.point(), z))
+    }
+}
+
+// The Z of a joint's frame.
+fn joint_axis(d: Direction, mirrored: bool) -> Vec3
+    ensures { λ w. ⌜ vec w ≡ spec.jointAxis (spec.direction d) mirrored ⌝ }
+{
+    match d {
+        Direction::Along(z) => z,
+        Direction::Nothing => { if mirrored { Vec3::Z.neg() } else { Vec3::Z } }
+    }
+}
+
+fn frame_or_world(f: NewFrame) -> Frame
+    ensures { λ w. ⌜ frame w ≡ spec.frameOr (made f) world ⌝ }
+{
+    match f {
+        NewFrame::Made(g) => g,
+        NewFrame::Nothing => Frame::WORLD,
     }
 }

@@ -19,6 +19,8 @@ use vectors::vec::Vec3;
 
 const PI: f64 = 3.141592653589793;
 
+const MINUS_ONE: f64 = -1.0;
+
 // The first n of seven numbers; the others are 0.
 pub struct Rows {
     pub n: usize,
@@ -570,5 +572,146 @@ fn symmetry(s: Prim, a: Prim, b: Prim) -> Rows
             normal: _,
             radius: _,
         } => Rows::none(),
+    }
+}
+
+// A joint's frame in the assembly: origin, X, Z.
+pub struct JointAt {
+    pub o: Vec3,
+    pub x: Vec3,
+    pub z: Vec3,
+}
+
+// `joint_frame` of solve.rs.
+pub fn joint_at(e: End, q: Pose) -> JointAt
+    ensures { λ r. ⌜ spec.jointOf r ≡ spec.jointAt (endOf e) (pose q) ⌝ }
+{
+    let p = e.prim;
+    let f = p.joint_frame(e.mirrored);
+    let o = f.origin;
+    let x = f.x;
+    let z = f.z;
+    let r = q.r;
+    JointAt {
+        o: q.place(o),
+        x: r.apply(x),
+        z: r.apply(z),
+    }
+}
+
+// zb - za, or zb + za where not flipped.
+fn axes(flip: bool, a: JointAt, b: JointAt) -> Vec3
+    ensures { λ r. ⌜ vec r ≡ spec.axesApart flip (spec.jointOf a) (spec.jointOf b) ⌝ }
+{
+    let za = a.z;
+    let zb = b.z;
+    if flip {
+        zb.sub(za.scale(1.0))
+    } else {
+        zb.sub(za.scale(MINUS_ONE))
+    }
+}
+
+// ob - oa - za * offset
+fn origins(offset: f64, a: JointAt, b: JointAt) -> Vec3
+    ensures { λ r. ⌜ vec r ≡ spec.originsApart offset (spec.jointOf a) (spec.jointOf b) ⌝ }
+{
+    let oa = a.o;
+    let ob = b.o;
+    let za = a.z;
+    ob.sub(oa).sub(za.scale(offset))
+}
+
+// How far b's origin is off a's axis.
+fn off_axis(a: JointAt, b: JointAt) -> Vec3
+    ensures { λ r. ⌜ vec r ≡ spec.offAxis (spec.jointOf a) (spec.jointOf b) ⌝ }
+{
+    let oa = a.o;
+    let ob = b.o;
+    let za = a.z;
+    perp(ob.sub(oa), za)
+}
+
+fn turned(want: f64, a: JointAt, b: JointAt) -> f64
+    ensures { λ r. ⌜ r ≡ spec.turnedBy want (spec.jointOf a) (spec.jointOf b) ⌝ }
+{
+    let xa = a.x;
+    let xb = b.x;
+    let za = a.z;
+    wrap(turn(xa, xb, za) - want)
+}
+
+fn joint(kind: JointKind, flip: bool, offset: f64, want: f64, a: JointAt, b: JointAt) -> Rows
+    ensures { λ r. ⌜ r ≡ spec.pack (spec.jointRows kind flip offset want (spec.jointOf a) (spec.jointOf b)) ⌝ }
+{
+    match kind {
+        JointKind::Rigid => Rows::seven(
+            axes(flip, a, b),
+            origins(offset, a, b),
+            turned(want, a, b),
+        ),
+        JointKind::Revolute => Rows::six(axes(flip, a, b), origins(offset, a, b)),
+        JointKind::Slider => Rows::seven(axes(flip, a, b), off_axis(a, b), turned(want, a, b)),
+        JointKind::Cylindrical => Rows::six(axes(flip, a, b), off_axis(a, b)),
+        JointKind::Planar => {
+            let oa = a.o;
+            let ob = b.o;
+            let za = a.z;
+            Rows::four(axes(flip, a, b), gap(ob, oa, za, offset))
+        }
+        JointKind::Ball => {
+            let oa = a.o;
+            let ob = b.o;
+            Rows::three(ob.sub(oa))
+        }
+    }
+}
+
+// The rows of one relation, its ends at the poses qa and qb, symmetry's plane at qs.
+pub fn residual(rel: Rel, qa: Pose, qb: Pose, qs: Pose) -> Rows
+    ensures { λ r. ⌜ r ≡ spec.pack (spec.residual (lawOf (rel .law)) (endOf (rel .a)) (endOf (rel .b)) (pose qa) (pose qb) (pose qs)) ⌝ }
+{
+    let law = rel.law;
+    let a = rel.a;
+    let b = rel.b;
+    match law {
+        Law::Mate { offset } => mate(offset, mate_prim(a.placed(qa)), mate_prim(b.placed(qb))),
+        Law::Flush { offset } => flush(offset, a.placed(qa), b.placed(qb)),
+        Law::Angle {
+            angle: want,
+            reference,
+        } => {
+            let r = qa.r;
+            angle(
+                want,
+                r.apply(reference),
+                a.placed(qa).direction(),
+                b.placed(qb).direction(),
+            )
+        }
+        Law::Insert { offset, aligned } => insert(offset, aligned, a.placed(qa), b.placed(qb)),
+        Law::Tangent { offset, inside } => {
+            tangent(
+                a.radius,
+                b.radius,
+                offset,
+                inside,
+                a.placed(qa),
+                b.placed(qb),
+            )
+        }
+        Law::Symmetry { plane } => {
+            symmetry(
+                plane.placed(qs),
+                mate_prim(a.placed(qa)),
+                mate_prim(b.placed(qb)),
+            )
+        }
+        Law::Joint {
+            joint: kind,
+            flip,
+            offset,
+            angle: want,
+        } => joint(kind, flip, offset, want, joint_at(a, qa), joint_at(b, qb)),
     }
 }
