@@ -1,0 +1,5 @@
+pub mod Geometry
+pub mod Model
+pub mod Rows
+pub mod Judge
+pub mod Snap
