@@ -13,3 +13,4 @@ pub mod Near
 pub mod Largest
 pub mod DiffersLaws
 pub mod Bound
+pub mod Loops
