@@ -7,3 +7,5 @@ pub mod Lm
 pub mod Solve
 pub mod Dof
 pub mod Memory
+pub mod RowBound
+pub mod RowBoundLaws
