@@ -3,3 +3,9 @@ pub mod Model
 pub mod Rows
 pub mod Judge
 pub mod Snap
+pub mod Lm
+pub mod Solve
+pub mod Dof
+pub mod Memory
+pub mod RowBound
+pub mod RowBoundLaws
