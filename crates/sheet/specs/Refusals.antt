@@ -11,7 +11,8 @@ use Rattle.vectors.specs.Vec.{Vec}
 use Rattle.solver.specs.Judge.{judge}
 use Rattle.solver.specs.Solve.{Scene, unknowns, rowsOf}
 use Rattle.solver.specs.Dof.{zeros}
-use Rattle.sheet.specs.Format.{byteAt, u16At, u32At, doubleAt, vecAt, zeroBytes, bodiesOf, relationsOf, bodyStart, relStart, usesOffset, usesAngle, usesReference, usesFlag, usesJoint, usesEndRadius, usesPlane, usesDirection, usesCircleRadius, GROUND, relAt, sceneAt}
+use Rattle.solver.specs.Record.{byteAt, u16At, u32At, doubleAt, vecAt, zeroBytes, usesOffset, usesAngle, usesReference, usesFlag, usesJoint, usesEndRadius, usesPlane, usesDirection, usesCircleRadius, GROUND, relAt}
+use Rattle.sheet.specs.Format.{bodiesOf, relationsOf, bodyStart, relStart, sceneAt}
 
 -- the first of two tests' numbers that is not 0; the second is asked only where the first gives 0
 abbrev pub orElse : ℕ → ℕ → ℕ

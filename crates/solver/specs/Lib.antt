@@ -7,3 +7,4 @@ pub mod Lm
 pub mod Solve
 pub mod Dof
 pub mod Memory
+pub mod Record
