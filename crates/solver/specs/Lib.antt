@@ -9,3 +9,4 @@ pub mod Dof
 pub mod Memory
 pub mod RowBound
 pub mod RowBoundLaws
+pub mod Record

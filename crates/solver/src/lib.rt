@@ -2,3 +2,4 @@
 pub mod geometry;
 pub mod model;
 pub mod rows;
+pub mod record;

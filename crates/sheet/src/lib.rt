@@ -1,0 +1,1 @@
+// The sheet: its reader, its refusals and the calls.
