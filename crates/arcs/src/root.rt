@@ -1,4 +1,5 @@
-// The square root of a double, as IEEE 754 has it: in whole numbers, one binary digit at a time, and rounded once.
+// The square root of a double, as IEEE 754 has it, in whole numbers and rounded once: an estimate in doubles is tested exactly, and where the test fails, as it does
+// for most subnormals, the root is found one binary digit at a time.
 ghost use Prim.Native.Nat.{_+_, _*_, _/_, _%_, _^_, _≤_, _<_};
 ghost use lib.Dec.{T};
 ghost use lib.Ieee.Positive.{positive};
