@@ -1,0 +1,1 @@
+pub fn write(_d: &str) -> bool { true }
