@@ -227,7 +227,7 @@ fn limited(sheet: &mut Sheet) {
 
 /// Makes something odd of a valid sheet, which stays valid.
 fn degrade(rng: &mut Rng, sheet: &mut Sheet) {
-    let odd = |rng: &mut Rng| rng.pick(&[0.0, -0.0, 1e-7, 1e-9, 1e-12, 1e-300, 5e-324, -1.0, 1.01, 1000.0, -1000.0, 0.5, std::f64::consts::PI, -std::f64::consts::PI]);
+    let odd = |rng: &mut Rng| rng.pick(&[0.0, -0.0, 1e-7, 1e-9, 1e-12, 1e-80, 1e-155, 1e-300, 5e-324, -1.0, 1.01, 1000.0, -1000.0, 0.5, std::f64::consts::PI, -std::f64::consts::PI]);
     for _ in 0..1 + rng.below(4) {
         let value = odd(rng);
         let count = sheet.relations.len();
@@ -235,7 +235,7 @@ fn degrade(rng: &mut Rng, sheet: &mut Sheet) {
             let r = &mut sheet.relations[rng.below(count)];
             let e = rng.below(3);
             let end = &mut r.ends[e];
-            match rng.below(12) {
+            match rng.below(13) {
                 0 => end.direction = [0.0; 3],
                 1 => end.direction = [value; 3],
                 2 => end.direction[rng.below(3)] = value,
@@ -247,6 +247,11 @@ fn degrade(rng: &mut Rng, sheet: &mut Sheet) {
                 8 => r.offset = value,
                 9 => r.angle = value,
                 10 => r.reference[rng.below(3)] = value,
+                // A direction of nearly unit length: what slides along it is nearly free.
+                11 => {
+                    let near = 1.0 - rng.unit() * rng.pick(&[1e-5, 1e-6, 1e-7, 1e-8]);
+                    r.ends.iter_mut().for_each(|e| e.direction = e.direction.map(|d| d * near));
+                }
                 _ => r.ends[1] = r.ends[0],
             }
         } else if !sheet.bodies.is_empty() {
@@ -324,12 +329,12 @@ pub fn limits(full: bool) -> Vec<(&'static str, Sheet)> {
     let mate = |a: End, b: End| Relation { ends: [a, b, End::default()], ..Relation::default() };
     let plane = |body: u16, z: f64| End { prim: PLANE, body, point: [0.0, 0.0, z], direction: [0.0, 0.0, 1.0], ..End::default() };
     let line = |body: u16| End { prim: LINE, body, direction: [1.0, 0.0, 0.0], ..End::default() };
-    let rigid = |body: u16, z: f64| Relation { law: JOINT, ends: [plane(GROUND, z), plane(body, 0.0), End::default()], ..Relation::default() };
+    let rigid = Relation { law: JOINT, flag: 1, ends: [plane(GROUND, 0.0), plane(0, 0.0), End::default()], ..Relation::default() };
     let world = body(0.0);
     let example = Sheet { bodies: vec![world], relations: vec![mate(point(GROUND, 0.0), point(0, 0.0))] };
-    // 114 rigid joints of 7 rows and one relation of 2 or 3 rows.
+    // 114 rigid joints of 7 rows and one relation of 2 or 3 rows: 800 are iterated and hold at the end, 801 are not.
     let rows = |last: Relation| {
-        let mut relations = vec![rigid(0, 0.25); 114];
+        let mut relations = vec![rigid; 114];
         relations.push(last);
         Sheet { bodies: vec![body(1.0), Body { fixed: 1, ..world }], relations }
     };
@@ -473,7 +478,7 @@ pub fn calls(rng: &mut Rng, sheet: Option<&Sheet>) -> Vec<Call> {
     ]
 }
 
-/// The same calls with nothing short: every relation, and one drag.
+/// The same calls with nothing short, some lengths longer than they must be: every relation, and one drag.
 pub fn good_calls(rng: &mut Rng, sheet: &Sheet) -> Vec<Call> {
     let scene = Scene::of(sheet);
     let (m, k) = (sheet.bodies.len(), sheet.relations.len());
@@ -483,7 +488,8 @@ pub fn good_calls(rng: &mut Rng, sheet: &Sheet) -> Vec<Call> {
         out.extend([Call::Judge { relation }, Call::Reading { relation }, Call::Snap { relation, motion: 12 }]);
     }
     let drag = if m == 0 { GROUND } else { drag };
-    out.push(Call::Solve { drag, scratch: scene.solve_scratch(), poses: 12 * m, frames: 12 * m, errors: k });
-    out.push(Call::Dof { scratch: scene.dof_scratch(), freedoms: 29 * m });
+    let mut more = |n: usize| n + rng.pick(&[0, 0, 1, 17]);
+    out.push(Call::Solve { drag, scratch: more(scene.solve_scratch()), poses: more(12 * m), frames: more(12 * m), errors: more(k) });
+    out.push(Call::Dof { scratch: more(scene.dof_scratch()), freedoms: more(29 * m) });
     out
 }
