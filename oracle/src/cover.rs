@@ -96,6 +96,11 @@ impl Cover {
         }
     }
 
+    /// How much of what is to be reached was.
+    pub fn reached(&self) -> usize {
+        self.0.values().filter(|n| **n > 0).count()
+    }
+
     /// All counts, then what was never reached.
     pub fn print(&mut self) {
         for (name, count) in tenon::NAMES.iter().zip(&tenon::COVER) {

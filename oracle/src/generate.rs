@@ -273,6 +273,32 @@ fn degrade(rng: &mut Rng, sheet: &mut Sheet) {
     limited(sheet);
 }
 
+pub fn kind_count() -> usize {
+    kinds().len()
+}
+
+/// One relation of the kind that the index names, and three bodies for its ends.
+pub fn single(rng: &mut Rng, index: usize) -> (Relation, [Body; 3]) {
+    let kinds = kinds();
+    let style = if rng.one_in(3) { Style::Lattice } else { Style::Any };
+    let mut maker = Maker { rng, style, bodies: Vec::new() };
+    maker.bodies = (0..3).map(|_| maker.body()).collect();
+    let on = |rng: &mut Rng, i: u16| if rng.one_in(4) { GROUND } else { i };
+    let ends = [on(maker.rng, 0), on(maker.rng, 1), on(maker.rng, 2)];
+    let relation = maker.relation(kinds[index % kinds.len()], ends);
+    let mut bodies = maker.bodies.clone();
+    bodies.iter_mut().for_each(|b| displace(&mut maker, b));
+    let mut sheet = Sheet { bodies, relations: vec![relation] };
+    limited(&mut sheet);
+    if maker.rng.one_in(4) {
+        degrade(maker.rng, &mut sheet);
+        sheet.relations[0].ends[0].prim = relation.ends[0].prim;
+        sheet.relations[0].ends[1].prim = relation.ends[1].prim;
+        sheet.relations[0] = sheet.relations[0].cleared();
+    }
+    (sheet.relations[0], sheet.bodies.try_into().unwrap())
+}
+
 /// A valid sheet of up to `most` bodies.
 pub fn sheet(rng: &mut Rng, index: usize, most: usize) -> Sheet {
     let style = if rng.one_in(3) { Style::Lattice } else { Style::Any };
