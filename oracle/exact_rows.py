@@ -1,7 +1,6 @@
 """The rows of mate, flush, insert, symmetry and tangent with a plane, on doubles and in exact fractions.
 
-    python3 exact_rows.py                    the frozen lists, then random and climbing inputs
-    python3 exact_rows.py SEED N             N random inputs and as many climbing steps
+    python3 exact_rows.py LISTS SEED N       the lists in folder LISTS, then N random inputs and as many climbing steps
 
 One text of the rows, written from document 01's solve.rs, is run on floats and on fractions. It prints the
 largest distance seen between max_abs of the rows on doubles and the largest magnitude of the exact rows,
@@ -280,7 +279,6 @@ def tries(seed, n):
 
 
 if __name__ == "__main__":
-    lists = pathlib.Path(__file__).resolve().parent / "lists"
-    seed, n = (int(a) for a in sys.argv[1:3]) if len(sys.argv) > 2 else (1, 2000)
+    lists, seed, n = pathlib.Path(sys.argv[1]), int(sys.argv[2]), int(sys.argv[3])
     good = list_of_rows(lists / "rows.bin") & list_of_sheets(lists / "sheets_solved.bin") & tries(seed, n)
     sys.exit(0 if good else 1)

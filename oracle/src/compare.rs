@@ -10,12 +10,12 @@ use crate::sheet::{self, Sheet};
 use crate::{plain, with_max01};
 
 /// Every case of a seed: N valid sheets with calls that are accepted, N damaged ones and N with calls near
-/// their limits, then the sheets at the limits. `each` is given the bytes and the call.
+/// their limits, then every field changed by itself, then the sheets at the limits. `each` is given the bytes and the call.
 fn cases(seed: u64, n: usize, cover: &mut Cover, mut each: impl FnMut(&mut Cover, &[u8], Call)) {
     let mut rng = Rng(seed);
     for i in 0..n {
         let most = if i % 50 == 0 { 12 } else { 4 };
-        let sheet = generate::sheet(&mut rng, i, most);
+        let sheet = if i % 5 == 4 { generate::nearly_free(&mut rng) } else { generate::sheet(&mut rng, i - i / 5, most) };
         cover.sheet(&sheet);
         let bytes = sheet.bytes();
         generate::good_calls(&mut rng, &sheet).into_iter().for_each(|c| each(cover, &bytes, c));
@@ -25,6 +25,15 @@ fn cases(seed: u64, n: usize, cover: &mut Cover, mut each: impl FnMut(&mut Cover
         let damaged = generate::damaged(&mut rng, &sheet);
         let read = sheet::read(&damaged).ok().filter(|s| s.bodies.len() < 20);
         generate::calls(&mut rng, read.as_ref()).into_iter().for_each(|c| each(cover, &damaged, c));
+    }
+    for base in generate::field_bases() {
+        let sheet = crate::lists::record_words(&base.bytes());
+        for (at, word) in generate::field_faults(&sheet) {
+            let mut changed = sheet.clone();
+            changed[at] = word;
+            let bytes: Vec<u8> = changed.iter().flat_map(|w| w.to_le_bytes()).collect();
+            each(cover, &bytes, Call::Judge { relation: 0 });
+        }
     }
     for (_, sheet) in generate::limits(false) {
         cover.sheet(&sheet);
@@ -44,9 +53,9 @@ pub fn max_and_cover(seed: u64, n: usize) -> bool {
             differ += 1;
         }
     });
-    cover.print();
+    let good = cover.print();
     println!("max of two zeros as document 01 has it: {differ} of {calls} answers differ from the Rust's release");
-    true
+    good
 }
 
 /// A count of comparisons and of the differences among them, the first few printed.

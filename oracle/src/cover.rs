@@ -16,6 +16,19 @@ const CALLS: [(&str, &[u32]); 5] = [
     ("dof", &[1, 2, 3, 4, 5, 6, 7, 9, 10]),
 ];
 
+/// Branches that no sheet within the limits is known to reach. Rows and slopes stay finite there, so the
+/// first four are for functions alone (the frozen lists reach two of them and the hundredth sweep); the
+/// last two need a free motion that turns by less than 1e-162, or one that is neither a slide nor a turn.
+const OUT_OF_REACH: [&str; 7] = [
+    "branch jacobian: slope not finite",
+    "branch lm::solve: step too far, squares not finite",
+    "branch max_abs: row not finite",
+    "branch solve_dense: step not finite",
+    "branch sym_eigen: 100 sweeps done",
+    "branch body_dof: turn at the centre",
+    "branch body_dof: no extra slide",
+];
+
 pub struct Cover(BTreeMap<String, u64>);
 
 impl Cover {
@@ -101,8 +114,8 @@ impl Cover {
         self.0.values().filter(|n| **n > 0).count()
     }
 
-    /// All counts, then what was never reached.
-    pub fn print(&mut self) {
+    /// Prints all counts, then what was never reached; whether that is no more than what is out of reach.
+    pub fn print(&mut self) -> bool {
         for (name, count) in tenon::NAMES.iter().zip(&tenon::COVER) {
             self.add(format!("branch {name}"), count.load(Ordering::Relaxed));
         }
@@ -111,6 +124,8 @@ impl Cover {
         }
         let never: Vec<&String> = self.0.iter().filter(|(_, n)| **n == 0).map(|(what, _)| what).collect();
         println!("reached {} of {}", self.0.len() - never.len(), self.0.len());
-        never.iter().for_each(|what| println!("never reached: {what}"));
+        let known = |what: &str| OUT_OF_REACH.contains(&what);
+        never.iter().for_each(|what| println!("never reached: {what}{}", if known(what) { ", as known" } else { "" }));
+        never.iter().all(|what| known(what))
     }
 }

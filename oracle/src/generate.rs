@@ -348,6 +348,29 @@ pub fn sheet(rng: &mut Rng, index: usize, most: usize) -> Sheet {
     sheet
 }
 
+/// One free body on lines of nearly unit length: a slide along such a line is resisted so little that what
+/// `dof` finds free at once and one by one differs.
+pub fn nearly_free(rng: &mut Rng) -> Sheet {
+    let mut maker = Maker { rng, style: Style::Any, bodies: Vec::new() };
+    let body = maker.body();
+    maker.bodies.push(body);
+    let mut relations = Vec::new();
+    for _ in 0..1 + maker.rng.below(2) {
+        let prims = maker.rng.pick(&[[LINE, POINT, PLANE], [POINT, LINE, PLANE], [LINE, LINE, PLANE]]);
+        let law = maker.rng.pick(&[MATE, MATE, SYMMETRY]);
+        let mut r = maker.relation(Kind { law, joint: 0, flag: 0, prims }, [GROUND, 0, GROUND]);
+        let away = 10f64.powf(maker.rng.range(-7.4, -5.8));
+        for e in &mut r.ends {
+            e.direction = e.direction.map(|d| d * (1.0 - away));
+            e.point = list(crate::plain::vec3(e.point) + maker.direction() * maker.rng.pick(&[0.0, 0.0, 1.0, 30.0]));
+        }
+        relations.push(r.cleared());
+    }
+    let mut sheet = Sheet { bodies: maker.bodies, relations };
+    limited(&mut sheet);
+    sheet
+}
+
 /// Sheets at the limits of counts, rows and numbers; all pass tests 1 to 7. `full` adds those that take seconds.
 pub fn limits(full: bool) -> Vec<(&'static str, Sheet)> {
     let body = |x: f64| Body { frame: [[x, 0.0, 0.0], [1.0, 0.0, 0.0], [0.0, 1.0, 0.0], [0.0, 0.0, 1.0]], size: 2.0, ..Body::default() };
@@ -401,6 +424,47 @@ const ODD_DOUBLES: [u64; 10] = [
     0xC08F400000000001, // the next
     0x408F440000000000, // 1000.5
 ];
+
+/// Sheets of one body and one relation, of every law with every primitive at every end: 53 words each.
+pub fn field_bases() -> Vec<Sheet> {
+    let mut rng = Rng(11);
+    let mut maker = Maker { rng: &mut rng, style: Style::Any, bodies: Vec::new() };
+    maker.bodies = vec![maker.body()];
+    let mut out = Vec::new();
+    for (law, prim) in (0..7).flat_map(|law| (0..4).map(move |prim| (law, prim))) {
+        let kind = Kind { law, joint: prim, flag: prim % 2, prims: [prim, (prim + 2) % 4, (prim + 1) % 4] };
+        let relation = maker.relation(kind, [GROUND, 0, 0]);
+        out.push(Sheet { bodies: maker.bodies.clone(), relations: vec![relation] });
+    }
+    out
+}
+
+/// Words of such a sheet and what to put there instead, one at a time: each byte of the header and of the
+/// records' first words, and for each double −0, NaN, its limits and the next doubles.
+pub fn field_faults(words: &[u64]) -> Vec<(usize, u64)> {
+    let mut out = Vec::new();
+    for (i, word) in words.iter().enumerate() {
+        if matches!(i, 0..=3 | 20 | 26 | 35 | 44) {
+            for byte in 0..8 {
+                // Bytes with values of their own, an end's body, and bytes that are to be 0.
+                let values: &[u64] = match (i, byte) {
+                    (0..=2, _) => &[1, 255],
+                    (3, 0) | (20, 0..=2) | (26.., 0..=1) => &[0, 1, 2, 3, 4, 5, 6, 7],
+                    (26.., 2..=3) => &[0, 1, 254, 255],
+                    _ => &[1],
+                };
+                let changed = values.iter().map(|value| word & !(0xFF << (8 * byte)) | value << (8 * byte));
+                out.extend(changed.filter(|c| c != word).map(|c| (i, c)));
+            }
+        } else {
+            let sign = (i as u64 & 1) << 63;
+            let limits = [AXIS, SIZE].map(f64::to_bits);
+            let near = limits.iter().flat_map(|l| [sign | l, sign | (l + 1)]);
+            out.extend(near.chain([1 << 63, f64::NAN.to_bits()]).map(|value| (i, value)));
+        }
+    }
+    out
+}
 
 /// The bytes of a sheet with one fault, or something near a fault, put in.
 fn damage(rng: &mut Rng, bytes: &mut Vec<u8>) {

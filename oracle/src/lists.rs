@@ -241,7 +241,7 @@ fn eigen_lists(dir: &str, rng: &mut Rng) {
     spans.write(dir, "span_basis");
 }
 
-fn record_words(bytes: &[u8]) -> Vec<u64> {
+pub fn record_words(bytes: &[u8]) -> Vec<u64> {
     bytes.chunks(8).map(|c| c.iter().rev().fold(0, |w, b| w << 8 | *b as u64)).collect()
 }
 fn relation_words(r: &Relation) -> Vec<u64> {
@@ -352,7 +352,11 @@ fn sheet_lists(dir: &str, rng: &mut Rng) {
     // Valid sheets, each kept for something that none before it reaches.
     let (mut valid, mut cover) = (List::new(), Cover::new());
     for i in 0..3000 {
-        let sheet = generate::sheet(rng, i, if i % 10 == 9 { 4 } else { 2 });
+        let sheet = match i % 10 {
+            8 => generate::nearly_free(rng),
+            9 => generate::sheet(rng, i, 4),
+            _ => generate::sheet(rng, i, 2),
+        };
         let bytes = sheet.bytes();
         let before = (cover.reached(), branches());
         let calls = generate::good_calls(rng, &sheet);
@@ -382,6 +386,21 @@ fn sheet_lists(dir: &str, rng: &mut Rng) {
         }
     }
     refused.write(dir, "sheets_refused");
+    let mut fields = List::new();
+    for base in generate::field_bases() {
+        let mut record = record_words(&base.bytes());
+        let faults = generate::field_faults(&record);
+        let sheet = record.clone();
+        record.push(faults.len() as u64);
+        for (at, word) in faults {
+            let mut changed = sheet.clone();
+            changed[at] = word;
+            let bytes: Vec<u8> = changed.iter().flat_map(|w| w.to_le_bytes()).collect();
+            record.extend([at as u64, word, words(&plain::answer(&bytes, Call::Judge { relation: 0 }))[0]]);
+        }
+        fields.put_words(&record);
+    }
+    fields.write(dir, "sheets_fields");
     let mut limits = List::new();
     for (_, sheet) in generate::limits(false) {
         let calls = generate::good_calls(rng, &sheet);

@@ -5,6 +5,7 @@ mod answer;
 mod arguments;
 mod compare;
 mod cover;
+mod examples;
 mod generate;
 mod lists;
 mod rng;
@@ -28,6 +29,7 @@ const USAGE: &str = "oracle answer FILE [DRAG]     all answers about a sheet, wi
 oracle report < FILE          what the program report prints
 oracle gen SEED N DIR         N valid sheets, written as DIR/NNNN.sheet, and what they cover
 oracle cover SEED N           all calls on N valid and N damaged sheets and the limits: counts, branches, max
+oracle examples               document 01's own examples, asked of the oracle
 oracle arcs N                 the linked root, sine, cosine and arctangent on about 4N arguments
 oracle sheet SEED N           the linked sheet library against the Rust on N valid and N damaged sheets
 oracle run-report PROGRAM SEED N    the program report against the Rust
@@ -51,6 +53,7 @@ fn main() {
         ["arcs", n] => compare::arcs(number(n)),
         ["sheet", seed, n] => compare::sheet(number(seed) as u64, number(n)),
         ["run-report", program, seed, n] => compare::report(program, number(seed) as u64, number(n)),
+        ["examples"] => examples::run(),
         ["lists", dir] => lists::write(dir),
         _ => {
             println!("{USAGE}");
