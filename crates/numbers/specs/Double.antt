@@ -34,7 +34,7 @@ fmax x y = cond (isNan x) y (cond (isNan y) x (cond (eq x zero64 && eq y zero64)
 unfoldable pub clamp : Float → Float
 clamp x = cond (lt x (ofBits binary64 0xBFF0_0000_0000_0000)) (ofBits binary64 0xBFF0_0000_0000_0000) (cond (lt one64 x) one64 x)
 
--- 1 with the sign of x, of a zero64 too
+-- 1 with the sign of x, of a zero too
 unfoldable pub signum : Float → Float
 unfolding negative
 signum x = cond (isNan x) nan (cond (negative x) (ofBits binary64 0xBFF0_0000_0000_0000) one64)
@@ -44,6 +44,6 @@ unfoldable pub before : Float → Float → Bool
 unfolding negative
 before a b = not (isNan a) && (isNan b || (lt a b || (eq a b && (negative a && not (negative b)))))
 
--- for a positive b: % and, if negative, one64 addition
+-- for a positive b: % and, if negative, one addition
 unfoldable pub remEuclid : Float → Float → Float
 remEuclid a b = let r = rem binary64 a b in cond (lt r zero64) (add binary64 r b) r

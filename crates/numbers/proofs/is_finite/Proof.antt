@@ -1,0 +1,10 @@
+-- `numbers::is_finite` meets its contract. Assumes nothing.
+use Rattle.numbers.specs.DoubleLaws.{finite-by-itself}
+use Rattle.numbers.proofs.is_finite.Statement.{statement}
+use Rattle.numbers.proofs.is_finite.Tie as tie
+
+returns : tie.Need-returns
+returns c = finite-by-itself (c .args .x)
+
+pub is-finite-spec : {M : Type 1} → statement M
+is-finite-spec = tie.close (tie.spec returns)
