@@ -371,7 +371,7 @@ pub fn nearly_free(rng: &mut Rng) -> Sheet {
     sheet
 }
 
-/// Sheets at the limits of counts, rows and numbers; all pass tests 1 to 7. `full` adds those that take seconds.
+/// Sheets at the limits of counts, rows and numbers, and two found by search; all pass tests 1 to 7. `full` adds those that take seconds.
 pub fn limits(full: bool) -> Vec<(&'static str, Sheet)> {
     let body = |x: f64| Body { frame: [[x, 0.0, 0.0], [1.0, 0.0, 0.0], [0.0, 1.0, 0.0], [0.0, 0.0, 1.0]], size: 2.0, ..Body::default() };
     let point = |body: u16, x: f64| End { prim: POINT, body, point: [x, 0.0, 0.0], ..End::default() };
@@ -404,6 +404,10 @@ pub fn limits(full: bool) -> Vec<(&'static str, Sheet)> {
         ("800 rows", rows(mate(plane(GROUND, 0.0), line(0)))),
         ("801 rows", rows(mate(point(GROUND, 0.0), point(0, 0.0)))),
     ];
+    // Sheets found by search. In both `dof` counts a turn whose axis is zero: a slider joint that turns by
+    // rounding alone, and a motion that turns by so little that its square is 0.
+    out.push(("a turn without an axis", read(include_bytes!("../sheets/turn_without_axis.sheet")).unwrap()));
+    out.push(("a turn at the centre", read(include_bytes!("../sheets/turn_at_centre.sheet")).unwrap()));
     if full {
         let chain = |i: u16| mate(point(if i == 0 { GROUND } else { i - 1 }, 0.5), point(i, -0.5));
         let links: Vec<Relation> = (0..64).map(chain).collect();
