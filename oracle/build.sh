@@ -18,8 +18,8 @@ cfg=() ; link=(-L "native=$libs" -l m)
 if has sheet sheet_judge; then cfg+=(--cfg sheet); link+=(-l static=sheet); fi
 if has sheet sheet_solve; then cfg+=(--cfg sheet_solve); fi
 if has sheet sheet_dof; then cfg+=(--cfg sheet_dof); fi
-if has sheet sine; then cfg+=(--cfg linked)
-elif has arcs sine; then cfg+=(--cfg linked); link+=(-l static=arcs); fi
+# Both libraries may hold the arcs, which are the same code.
+if has arcs sine; then cfg+=(--cfg linked); link+=(-l static=arcs -C link-arg=-Wl,--allow-multiple-definition); fi
 
 rust() { rustc --edition 2024 -C opt-level=3 -L build "${cfg[@]}" "$@"; }
 rust --crate-type rlib --crate-name arcs src/arcs.rs --out-dir build

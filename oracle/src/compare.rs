@@ -35,7 +35,7 @@ fn cases(seed: u64, n: usize, cover: &mut Cover, mut each: impl FnMut(&mut Cover
             each(cover, &bytes, Call::Judge { relation: 0 });
         }
     }
-    for (_, sheet) in generate::limits(false) {
+    for (_, sheet) in generate::limits(n >= 2000) {
         cover.sheet(&sheet);
         let bytes = sheet.bytes();
         generate::good_calls(&mut rng, &sheet).into_iter().for_each(|c| each(cover, &bytes, c));

@@ -92,17 +92,17 @@ fn all_bits(parts: &[&[f64]]) -> Vec<u64> {
     parts.iter().flat_map(|part| part.iter().copied().map(bits)).collect()
 }
 
-fn arcs_lists(dir: &str, rng: &mut Rng) {
+fn arcs_lists(dir: &str, rng: &mut Rng, scale: usize) {
     use arcs::rule::{arctangent, pair};
     let (mut sines, mut tangents, mut roots) = (List::new(), List::new(), List::new());
-    for t in args::angles().into_iter().chain((0..3000).map(|_| args::angle(rng)).collect::<Vec<_>>()) {
+    for t in args::angles().into_iter().chain((0..3000 * scale).map(|_| args::angle(rng)).collect::<Vec<_>>()) {
         let (s, c) = pair(t);
         sines.put(&[&[t, s, c]]);
     }
-    for (y, x) in args::slopes().into_iter().chain((0..3000).map(|_| args::slope(rng)).collect::<Vec<_>>()) {
+    for (y, x) in args::slopes().into_iter().chain((0..3000 * scale).map(|_| args::slope(rng)).collect::<Vec<_>>()) {
         tangents.put(&[&[y, x, arctangent(y, x)]]);
     }
-    for x in args::squares(rng).into_iter().chain((0..5000).map(|_| args::square(rng)).collect::<Vec<_>>()) {
+    for x in args::squares(rng).into_iter().chain((0..5000 * scale).map(|_| args::square(rng)).collect::<Vec<_>>()) {
         roots.put(&[&[x, x.sqrt()]]);
     }
     sines.write(dir, "sine_cosine");
@@ -110,9 +110,9 @@ fn arcs_lists(dir: &str, rng: &mut Rng) {
     roots.write(dir, "root");
 }
 
-fn vectors_lists(dir: &str, rng: &mut Rng) {
+fn vectors_lists(dir: &str, rng: &mut Rng, scale: usize) {
     let (mut exps, mut muls, mut betweens) = (List::new(), List::new(), List::new());
-    for i in 0..1500 {
+    for i in 0..1500 * scale {
         let w = match i % 5 {
             0 => anyhow(rng, 1.0).normalized() * args::angle(rng),
             1 => axis(rng) * args::angle(rng),
@@ -120,11 +120,11 @@ fn vectors_lists(dir: &str, rng: &mut Rng) {
         };
         exps.put(&[&list(w), M3::exp(w).0.as_flattened()]);
     }
-    for _ in 0..400 {
+    for _ in 0..400 * scale {
         let (a, b) = (turning(rng), turning(rng));
         muls.put(&[a.0.as_flattened(), b.0.as_flattened(), a.mul(&b).0.as_flattened()]);
     }
-    for i in 0..1200 {
+    for i in 0..1200 * scale {
         let from = vector(rng);
         let tiny = anyhow(rng, 1.0) * rng.pick(&[1e-11, 1e-12, 1e-13, 1e-15]);
         let to = match i % 6 {
@@ -141,7 +141,7 @@ fn vectors_lists(dir: &str, rng: &mut Rng) {
     betweens.write(dir, "rotation_between");
 
     let (mut news, mut normals, mut ofs) = (List::new(), List::new(), List::new());
-    for i in 0..1200 {
+    for i in 0..1200 * scale {
         let (origin, z) = (vector(rng), vector(rng));
         let side = anyhow(rng, 1.0) * rng.pick(&[1e-6, 1e-7, 1e-8, 1.0]);
         let hint = match i % 5 {
@@ -158,12 +158,12 @@ fn vectors_lists(dir: &str, rng: &mut Rng) {
             news.put_words(&[all_bits(&[&[0.0; 3], &list(z), &list(x)]), frame_words(Frame::new(Vec3::ZERO, z, x))].concat());
         }
     }
-    for _ in 0..800 {
+    for _ in 0..800 * scale {
         let (origin, z) = (vector(rng), vector(rng));
         let z = if rng.one_in(4) { Vec3::new(signed(rng, 0.9), rng.range(-1.0, 1.0), 0.0) } else { z };
         normals.put_words(&[all_bits(&[&list(origin), &list(z)]), frame_words(Frame::from_normal(origin, z))].concat());
     }
-    for _ in 0..600 {
+    for _ in 0..600 * scale {
         let (r, origin) = (turning(rng), vector(rng));
         ofs.put_words(&[all_bits(&[r.0.as_flattened(), &list(origin)]), frame_words(frame_of(&r, origin))].concat());
     }
@@ -198,26 +198,26 @@ fn matrix(rng: &mut Rng, n: usize) -> Vec<f64> {
     a
 }
 
-fn eigen_lists(dir: &str, rng: &mut Rng) {
+fn eigen_lists(dir: &str, rng: &mut Rng, scale: usize) {
     let eigen = |out: &mut List, n: usize, a: Vec<f64>| {
         let (values, vectors) = sym_eigen(&a, n);
         out.put_words(&[vec![n as u64], all_bits(&[&a, &values, &vectors.concat()])].concat());
     };
     for (n, count) in [(3, 800), (6, 350)] {
         let mut out = List::new();
-        (0..count).for_each(|_| eigen(&mut out, n, matrix(rng, n)));
+        (0..count * scale).for_each(|_| eigen(&mut out, n, matrix(rng, n)));
         eigen(&mut out, n, vec![f64::NAN; n * n]);
         eigen(&mut out, n, vec![0.0; n * n]);
         out.write(dir, &format!("sym_eigen{n}"));
     }
     let mut any = List::new();
     for n in [0, 1, 2, 4, 5, 7, 12, 18] {
-        (0..if n == 0 { 1 } else { 60 / n }).for_each(|_| eigen(&mut any, n, matrix(rng, n)));
+        (0..if n == 0 { 1 } else { 60 * scale / n }).for_each(|_| eigen(&mut any, n, matrix(rng, n)));
     }
     any.write(dir, "sym_eigen_any");
 
     let mut spans = List::new();
-    for i in 0..900 {
+    for i in 0..900 * scale {
         let count = rng.below(7);
         let first = anyhow(rng, 1.0).normalized();
         let vs: Vec<Vec3> = (0..count)
@@ -250,11 +250,11 @@ fn relation_words(r: &Relation) -> Vec<u64> {
     record_words(&bytes)
 }
 
-fn solver_lists(dir: &str, rng: &mut Rng) {
+fn solver_lists(dir: &str, rng: &mut Rng, scale: usize) {
     use std::f64::consts::PI;
     let (mut wraps, mut gaps, mut largest) = (List::new(), List::new(), List::new());
     let turns = (0..24).flat_map(|i| [-1, 0, 1].map(|d| (i - 12, d))).map(|(i, d)| f64::from_bits((i as f64 * PI).to_bits().wrapping_add(d as u64)));
-    let turns: Vec<f64> = turns.filter(|a| a.is_finite()).chain([0.0, -0.0, 1000.0, -1000.0]).chain((0..400).map(|_| rng.range(-20.0, 20.0))).collect();
+    let turns: Vec<f64> = turns.filter(|a| a.is_finite()).chain([0.0, -0.0, 1000.0, -1000.0]).chain((0..400 * scale).map(|_| rng.range(-20.0, 20.0))).collect();
     turns.iter().for_each(|a| wraps.put(&[&[*a, solve::wrap(*a)]]));
     let radii = [2.0, 3.0, 0.0, -1.0, 0.5, 1000.0];
     for (ra, rb) in radii.iter().flat_map(|a| radii.iter().map(move |b| (*a, *b))) {
@@ -263,7 +263,7 @@ fn solver_lists(dir: &str, rng: &mut Rng) {
             gaps.put_words(&[all_bits(&[&[ra, rb, offset]]), vec![i & 1, i >> 1], all_bits(&[&[gap]])].concat());
         }
     }
-    for i in 0..500 {
+    for i in 0..500 * scale {
         let n = rng.below(8);
         let odd = |rng: &mut Rng| rng.pick(&[0.0, -0.0, f64::NAN, f64::INFINITY, f64::NEG_INFINITY, -3.0, f64::MAX, 5e-324]);
         let mut v: Vec<f64> = (0..n).map(|_| if i % 3 == 0 { odd(rng) } else { rng.range(-5.0, 5.0) }).collect();
@@ -276,7 +276,7 @@ fn solver_lists(dir: &str, rng: &mut Rng) {
     largest.write(dir, "max_abs");
 
     let mut dense = List::new();
-    for i in 0..700 {
+    for i in 0..700 * scale {
         let n = rng.below(7);
         let mut a: Vec<f64> = (0..n * n).map(|_| if i % 3 == 0 { rng.pick(&[0.0, 0.0, 1.0, -1.0, 2.0, -0.0]) } else { rng.range(-2.0, 2.0) }).collect();
         let mut b: Vec<f64> = (0..n).map(|_| rng.range(-5.0, 5.0)).collect();
@@ -295,7 +295,7 @@ fn solver_lists(dir: &str, rng: &mut Rng) {
     dense.write(dir, "solve_dense");
 
     let (mut rows, mut calls) = (List::new(), List::new());
-    for i in 0..generate::kind_count() + 60 {
+    for i in 0..generate::kind_count() * scale + 60 {
         let (r, bodies) = generate::single(rng, i);
         let poses: Vec<[f64; 12]> = bodies.iter().map(|b| pose(rng, b)).collect();
         let mut answer = plain::rows(&r, &poses);
@@ -303,7 +303,7 @@ fn solver_lists(dir: &str, rng: &mut Rng) {
         answer.resize(7, 0.0);
         rows.put_words(&[relation_words(&r), all_bits(&[poses.as_flattened()]), vec![count], all_bits(&[&answer, &[most]])].concat());
     }
-    for i in 0..generate::kind_count() {
+    for i in 0..generate::kind_count() * scale {
         let (r, bodies) = generate::single(rng, i);
         let mut sheet_bytes = Vec::new();
         bodies.iter().for_each(|b| b.write(&mut sheet_bytes));
@@ -358,12 +358,12 @@ fn sheet_lists(dir: &str, rng: &mut Rng) {
             _ => generate::sheet(rng, i, 2),
         };
         let bytes = sheet.bytes();
-        let before = (cover.reached(), branches());
+        let before = (cover.reached(), taken());
         let calls = generate::good_calls(rng, &sheet);
         cover.sheet(&sheet);
         let solved = [calls[calls.len() - 2], calls[calls.len() - 1]];
         solved.iter().for_each(|c| cover.call(*c, &plain::answer(&bytes, *c)));
-        if (cover.reached(), branches()) != before && valid.words.len() < 36_000 {
+        if (cover.reached(), taken()) != before && valid.words.len() < 36_000 {
             valid.put_words(&sheet_words(&bytes, &solved));
         }
     }
@@ -409,23 +409,29 @@ fn sheet_lists(dir: &str, rng: &mut Rng) {
     limits.write(dir, "sheets_limits");
 }
 
-/// How many branches of the Rust have been taken.
-fn branches() -> usize {
-    tenon::COVER.iter().filter(|c| c.load(Ordering::Relaxed) > 0).count()
+/// Which branches of the Rust have been taken since the last `forget`.
+fn taken() -> Vec<bool> {
+    tenon::COVER.iter().map(|c| c.load(Ordering::Relaxed) > 0).collect()
+}
+fn forget() {
+    tenon::COVER.iter().for_each(|c| c.store(0, Ordering::Relaxed));
 }
 
-pub fn write(dir: &str) -> bool {
+/// Writes all lists. A scale above 1 gives longer lists of single functions, for a run that is not kept.
+pub fn write(dir: &str, scale: usize) -> bool {
     std::fs::create_dir_all(dir).unwrap();
-    arcs_lists(dir, &mut Rng(1));
-    vectors_lists(dir, &mut Rng(2));
-    eigen_lists(dir, &mut Rng(3));
-    solver_lists(dir, &mut Rng(4));
-    let before = branches();
+    arcs_lists(dir, &mut Rng(1), scale);
+    vectors_lists(dir, &mut Rng(2), scale);
+    eigen_lists(dir, &mut Rng(3), scale);
+    solver_lists(dir, &mut Rng(4), scale);
+    let by_functions = taken();
+    forget();
     sheet_lists(dir, &mut Rng(5));
-    println!("branches of the Rust reached: {before} by functions alone, {} with sheets, of {}", branches(), tenon::NAMES.len());
-    for (name, count) in tenon::NAMES.iter().zip(&tenon::COVER) {
-        if count.load(Ordering::Relaxed) == 0 {
-            println!("never reached: {name}");
+    let count = |taken: &[bool]| taken.iter().filter(|t| **t).count();
+    println!("branches of the Rust: {}, taken for single functions {}, for sheets {}", tenon::NAMES.len(), count(&by_functions), count(&taken()));
+    for ((name, function), sheet) in tenon::NAMES.iter().zip(by_functions).zip(taken()) {
+        if !function && !sheet {
+            println!("never taken: {name}");
         }
     }
     true

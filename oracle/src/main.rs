@@ -33,7 +33,7 @@ oracle examples               document 01's own examples, asked of the oracle
 oracle arcs N                 the linked root, sine, cosine and arctangent on about 4N arguments
 oracle sheet SEED N           the linked sheet library against the Rust on N valid and N damaged sheets
 oracle run-report PROGRAM SEED N    the program report against the Rust
-oracle lists DIR              the frozen lists (FORMATS.md)";
+oracle lists DIR [SCALE]      the frozen lists (FORMATS.md); SCALE makes those of single functions longer";
 
 fn main() {
     let args: Vec<String> = std::env::args().skip(1).collect();
@@ -54,7 +54,8 @@ fn main() {
         ["sheet", seed, n] => compare::sheet(number(seed) as u64, number(n)),
         ["run-report", program, seed, n] => compare::report(program, number(seed) as u64, number(n)),
         ["examples"] => examples::run(),
-        ["lists", dir] => lists::write(dir),
+        ["lists", dir] => lists::write(dir, 1),
+        ["lists", dir, scale] => lists::write(dir, number(scale)),
         _ => {
             println!("{USAGE}");
             false
