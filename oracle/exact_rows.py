@@ -218,14 +218,8 @@ def list_of_sheets(path):
 
 # Inputs by chance and by climbing.
 
-def kinds():
-    for law in (MATE, FLUSH, INSERT, TANGENT, SYMMETRY):
-        for pa in range(4):
-            for pb in range(4):
-                rel = {"law": law, "ends": [{"prim": pa}, {"prim": pb}, {"prim": PLANE}]}
-                if law == TANGENT and PLANE not in (pa, pb):
-                    continue
-                yield rel["law"], pa, pb
+KINDS = [(law, pa, pb) for law in (MATE, FLUSH, INSERT, TANGENT, SYMMETRY) for pa in range(4) for pb in range(4)
+         if law != TANGENT or PLANE in (pa, pb)]
 
 
 def number(rng, limit):
@@ -244,7 +238,7 @@ def case(rng, law, pa, pb):
 
 
 def slots(rel, poses):
-    """Every double of a case: its list, its place in it, its limit."""
+    """Every double of a case but radii and offset: its list, its place in it, its limit."""
     for p in poses:
         yield from ((p, i, TURN if i < 9 else PLACE) for i in range(12))
     for e in rel["ends"]:
@@ -252,25 +246,40 @@ def slots(rel, poses):
         yield from ((e["direction"], i, AXIS) for i in range(3))
 
 
+def enlarged(rel, poses):
+    """The case at its limits, each end on a body of its own, with the signs that make its largest row large."""
+    for i, e in enumerate(rel["ends"]):
+        e["body"] = i
+    all_slots = list(slots(rel, poses))
+    for where, i, limit in all_slots:
+        where[i] = math.copysign(limit, where[i])
+    for where, i, _ in all_slots * 3:
+        before = largest(rows(rel, poses))
+        where[i] = -where[i]
+        if largest(rows(rel, poses)) < before:
+            where[i] = -where[i]
+    return rel, poses
+
+
 def tries(seed, n):
     rng, seen = random.Random(seed), Seen()
-    all_kinds = list(kinds())
     for i in range(n):
-        rel, poses = case(rng, *all_kinds[i % len(all_kinds)])
+        rel, poses = case(rng, *KINDS[i % len(KINDS)])
         seen.take(rel, poses)
     good = seen.report("random inputs")
     climbed = Seen()
-    each = max(1, n // len(all_kinds))
-    for kind in all_kinds:
-        rel, poses = case(rng, *kind)
+    for kind in KINDS:
+        rel, poses = enlarged(*case(rng, *kind))
         best = climbed.take(rel, poses)
-        for _ in range(each):
-            where, i, limit = rng.choice(list(slots(rel, poses)))
-            old, where[i] = where[i], number(rng, limit)
+        for _ in range(n // len(KINDS)):
+            kept = [(where, i, where[i]) for where, i, _ in rng.sample(list(slots(rel, poses)), rng.randint(1, 6))]
+            for where, i, old in kept:
+                where[i] = old * (1 - rng.random() * 2.0 ** -rng.randint(4, 45))
             d = climbed.take(rel, poses)
             if d >= best:
                 best = d
-            else:
+                continue
+            for where, i, old in reversed(kept):
                 where[i] = old
     good &= climbed.report("climbing inputs")
     for (law, pa, pb), d in sorted(climbed.worst.items(), key=lambda item: -item[1])[:6]:

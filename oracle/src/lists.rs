@@ -349,7 +349,7 @@ fn sheet_words(bytes: &[u8], calls: &[Call]) -> Vec<u64> {
 }
 
 fn sheet_lists(dir: &str, rng: &mut Rng) {
-    // Valid sheets, each kept for something that none before it reaches.
+    // Valid sheets, each kept for something that none before it reaches, and every hundredth.
     let (mut valid, mut cover) = (List::new(), Cover::new());
     for i in 0..3000 {
         let sheet = match i % 10 {
@@ -363,7 +363,8 @@ fn sheet_lists(dir: &str, rng: &mut Rng) {
         cover.sheet(&sheet);
         let solved = [calls[calls.len() - 2], calls[calls.len() - 1]];
         solved.iter().for_each(|c| cover.call(*c, &plain::answer(&bytes, *c)));
-        if (cover.reached(), taken()) != before && valid.words.len() < 36_000 {
+        let fresh = (cover.reached(), taken()) != before;
+        if (fresh || i % 100 == 99) && valid.words.len() < 36_000 {
             valid.put_words(&sheet_words(&bytes, &solved));
         }
     }
