@@ -1,8 +1,8 @@
 //! Comparisons: tenon with document 01's `max`, the linked arcs, the linked sheet library, the program report.
 
-use crate::answer::{Call, words};
 #[cfg(sheet)]
 use crate::answer::{Answer, text};
+use crate::answer::{Call, words};
 use crate::cover::Cover;
 use crate::generate;
 use crate::rng::Rng;
@@ -132,14 +132,30 @@ mod port {
     #[cfg(sheet_solve)]
     unsafe extern "C" {
         fn sheet_solve(
-            sheet: *const u8, sheet_len: usize, drag: u16, scratch: *mut f64, scratch_len: usize, poses: *mut f64, poses_len: usize,
-            frames: *mut f64, frames_len: usize, errors: *mut f64, errors_len: usize, converged: *mut u8,
+            sheet: *const u8,
+            sheet_len: usize,
+            drag: u16,
+            scratch: *mut f64,
+            scratch_len: usize,
+            poses: *mut f64,
+            poses_len: usize,
+            frames: *mut f64,
+            frames_len: usize,
+            errors: *mut f64,
+            errors_len: usize,
+            converged: *mut u8,
         ) -> u32;
     }
     #[cfg(sheet_dof)]
     unsafe extern "C" {
         fn sheet_dof(
-            sheet: *const u8, sheet_len: usize, scratch: *mut f64, scratch_len: usize, freedoms: *mut f64, freedoms_len: usize, free: *mut u32,
+            sheet: *const u8,
+            sheet_len: usize,
+            scratch: *mut f64,
+            scratch_len: usize,
+            freedoms: *mut f64,
+            freedoms_len: usize,
+            free: *mut u32,
         ) -> u32;
     }
 
@@ -186,7 +202,18 @@ mod port {
                 let (mut p, mut f, mut e, mut flag) = (lent(poses), lent(frames), lent(errors), 77u8);
                 let got = unsafe {
                     sheet_solve(
-                        sheet, len, drag, scratch.as_mut_ptr(), s, p.as_mut_ptr(), poses, f.as_mut_ptr(), frames, e.as_mut_ptr(), errors, &mut flag,
+                        sheet,
+                        len,
+                        drag,
+                        scratch.as_mut_ptr(),
+                        s,
+                        p.as_mut_ptr(),
+                        poses,
+                        f.as_mut_ptr(),
+                        frames,
+                        e.as_mut_ptr(),
+                        errors,
+                        &mut flag,
                     )
                 };
                 let untouched = |from: usize| scratch[from..].iter().zip(&before[from..]).all(|(a, b)| a.to_bits() == b.to_bits());

@@ -227,7 +227,26 @@ fn limited(sheet: &mut Sheet) {
 
 /// Makes something odd of a valid sheet, which stays valid.
 fn degrade(rng: &mut Rng, sheet: &mut Sheet) {
-    let odd = |rng: &mut Rng| rng.pick(&[0.0, -0.0, 1e-7, 1e-9, 1e-12, 1e-80, 1e-155, 1e-300, 5e-324, -1.0, 1.01, 1000.0, -1000.0, 0.5, std::f64::consts::PI, -std::f64::consts::PI]);
+    let odd = |rng: &mut Rng| {
+        rng.pick(&[
+            0.0,
+            -0.0,
+            1e-7,
+            1e-9,
+            1e-12,
+            1e-80,
+            1e-155,
+            1e-300,
+            5e-324,
+            -1.0,
+            1.01,
+            1000.0,
+            -1000.0,
+            0.5,
+            std::f64::consts::PI,
+            -std::f64::consts::PI,
+        ])
+    };
     for _ in 0..1 + rng.below(4) {
         let value = odd(rng);
         let count = sheet.relations.len();
@@ -389,7 +408,8 @@ pub fn limits(full: bool) -> Vec<(&'static str, Sheet)> {
     };
     let fixed_at = |x: f64| Sheet { bodies: vec![Body { fixed: 1, ..body(x) }], relations: vec![mate(point(GROUND, 0.0), point(0, 0.0))] };
     let within = 1e-9f64;
-    let mut largest = Sheet { bodies: vec![Body { center: [SIZE; 3], size: SIZE, ..body(-SIZE) }], relations: vec![mate(plane(GROUND, SIZE), plane(0, -SIZE))] };
+    let mut largest =
+        Sheet { bodies: vec![Body { center: [SIZE; 3], size: SIZE, ..body(-SIZE) }], relations: vec![mate(plane(GROUND, SIZE), plane(0, -SIZE))] };
     largest.bodies[0].frame[1] = [AXIS, -AXIS, AXIS];
     let mut out = vec![
         ("nothing", Sheet::default()),

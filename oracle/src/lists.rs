@@ -183,11 +183,31 @@ fn matrix(rng: &mut Rng, n: usize) -> Vec<f64> {
             // What body_dof and rank_rel form: slopes times slopes, of full rank or less.
             0..=5 => (0..rows).map(|r| slopes[r * n + i] * slopes[r * n + j]).sum(),
             // A diagonal, with equal and opposite zeros among it.
-            6 => if i == j { slopes[i] } else { 0.0 },
+            6 => {
+                if i == j {
+                    slopes[i]
+                } else {
+                    0.0
+                }
+            }
             // One value on the diagonal: theta is 0.
-            7 => if i == j { 1.0 } else { 0.25 },
+            7 => {
+                if i == j {
+                    1.0
+                } else {
+                    0.25
+                }
+            }
             // Entries around those left alone.
-            8 => if i == j { (i + 1) as f64 } else if i + j == 1 { 0.5 } else { [1e-300, 9e-301, -1e-300][(i + j) % 3] },
+            8 => {
+                if i == j {
+                    (i + 1) as f64
+                } else if i + j == 1 {
+                    0.5
+                } else {
+                    [1e-300, 9e-301, -1e-300][(i + j) % 3]
+                }
+            }
             // Large: squares are infinite.
             9 => (0..rows).map(|r| slopes[r * n + i] * slopes[r * n + j]).sum::<f64>() * 1e160,
             // Not symmetric: the sweeps do not end by themselves.
@@ -254,7 +274,8 @@ fn solver_lists(dir: &str, rng: &mut Rng, scale: usize) {
     use std::f64::consts::PI;
     let (mut wraps, mut gaps, mut largest) = (List::new(), List::new(), List::new());
     let turns = (0..24).flat_map(|i| [-1, 0, 1].map(|d| (i - 12, d))).map(|(i, d)| f64::from_bits((i as f64 * PI).to_bits().wrapping_add(d as u64)));
-    let turns: Vec<f64> = turns.filter(|a| a.is_finite()).chain([0.0, -0.0, 1000.0, -1000.0]).chain((0..400 * scale).map(|_| rng.range(-20.0, 20.0))).collect();
+    let turns: Vec<f64> =
+        turns.filter(|a| a.is_finite()).chain([0.0, -0.0, 1000.0, -1000.0]).chain((0..400 * scale).map(|_| rng.range(-20.0, 20.0))).collect();
     turns.iter().for_each(|a| wraps.put(&[&[*a, solve::wrap(*a)]]));
     let radii = [2.0, 3.0, 0.0, -1.0, 0.5, 1000.0];
     for (ra, rb) in radii.iter().flat_map(|a| radii.iter().map(move |b| (*a, *b))) {
@@ -278,7 +299,8 @@ fn solver_lists(dir: &str, rng: &mut Rng, scale: usize) {
     let mut dense = List::new();
     for i in 0..700 * scale {
         let n = rng.below(7);
-        let mut a: Vec<f64> = (0..n * n).map(|_| if i % 3 == 0 { rng.pick(&[0.0, 0.0, 1.0, -1.0, 2.0, -0.0]) } else { rng.range(-2.0, 2.0) }).collect();
+        let mut a: Vec<f64> =
+            (0..n * n).map(|_| if i % 3 == 0 { rng.pick(&[0.0, 0.0, 1.0, -1.0, 2.0, -0.0]) } else { rng.range(-2.0, 2.0) }).collect();
         let mut b: Vec<f64> = (0..n).map(|_| rng.range(-5.0, 5.0)).collect();
         match i % 7 {
             // Nearly or wholly singular; steps that overflow; the smallest pivots.
