@@ -3,6 +3,7 @@
 
 mod answer;
 mod arguments;
+mod bench;
 mod compare;
 mod cover;
 mod examples;
@@ -31,6 +32,7 @@ oracle gen SEED N DIR         N valid sheets, written as DIR/NNNN.sheet, and wha
 oracle cover SEED N           all calls on N valid and N damaged sheets and the limits: counts, branches, max
 oracle examples               document 01's own examples, asked of the oracle
 oracle arcs N                 the linked root, sine, cosine and arctangent on about 4N arguments
+oracle bench                  time per call of the linked arcs and root beside Rust's own
 oracle sheet SEED N           the linked sheet library against the Rust on N valid and N damaged sheets
 oracle run-report PROGRAM SEED N    the program report against the Rust
 oracle lists DIR [SCALE]      the frozen lists (FORMATS.md); SCALE makes those of single functions longer";
@@ -53,6 +55,7 @@ fn main() {
         ["arcs", n] => compare::arcs(number(n)),
         ["sheet", seed, n] => compare::sheet(number(seed) as u64, number(n)),
         ["run-report", program, seed, n] => compare::report(program, number(seed) as u64, number(n)),
+        ["bench"] => bench::run(),
         ["examples"] => examples::run(),
         ["lists", dir] => lists::write(dir, 1),
         ["lists", dir, scale] => lists::write(dir, number(scale)),
