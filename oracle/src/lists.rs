@@ -370,10 +370,10 @@ fn sheet_words(bytes: &[u8], calls: &[Call]) -> Vec<u64> {
     out
 }
 
-fn sheet_lists(dir: &str, rng: &mut Rng) {
+fn sheet_lists(dir: &str, rng: &mut Rng, scale: usize) {
     // Valid sheets, each kept for something that none before it reaches, and every hundredth.
     let (mut valid, mut cover) = (List::new(), Cover::new());
-    for i in 0..3000 {
+    for i in 0..3000 * scale {
         let sheet = match i % 10 {
             8 => generate::nearly_free(rng),
             9 => generate::sheet(rng, i, 4),
@@ -386,7 +386,7 @@ fn sheet_lists(dir: &str, rng: &mut Rng) {
         let solved = [calls[calls.len() - 2], calls[calls.len() - 1]];
         solved.iter().for_each(|c| cover.call(*c, &plain::answer(&bytes, *c)));
         let fresh = (cover.reached(), taken()) != before;
-        if (fresh || i % 100 == 99) && valid.words.len() < 36_000 {
+        if (fresh || i % 100 == 99 || scale > 1) && valid.words.len() < 36_000 * scale {
             valid.put_words(&sheet_words(&bytes, &solved));
         }
     }
@@ -440,7 +440,7 @@ fn forget() {
     tenon::COVER.iter().for_each(|c| c.store(0, Ordering::Relaxed));
 }
 
-/// Writes all lists. A scale above 1 gives longer lists of single functions, for a run that is not kept.
+/// Writes all lists. A scale above 1 gives longer lists of single functions and of solved sheets, for a run that is not kept.
 pub fn write(dir: &str, scale: usize) -> bool {
     std::fs::create_dir_all(dir).unwrap();
     arcs_lists(dir, &mut Rng(1), scale);
@@ -449,7 +449,7 @@ pub fn write(dir: &str, scale: usize) -> bool {
     solver_lists(dir, &mut Rng(4), scale);
     let by_functions = taken();
     forget();
-    sheet_lists(dir, &mut Rng(5));
+    sheet_lists(dir, &mut Rng(5), scale);
     let count = |taken: &[bool]| taken.iter().filter(|t| **t).count();
     println!("branches of the Rust: {}, taken for single functions {}, for sheets {}", tenon::NAMES.len(), count(&by_functions), count(&taken()));
     for ((name, function), sheet) in tenon::NAMES.iter().zip(by_functions).zip(taken()) {

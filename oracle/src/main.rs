@@ -35,7 +35,7 @@ oracle arcs N                 the linked root, sine, cosine and arctangent on ab
 oracle bench                  time per call of the linked arcs and root beside Rust's own
 oracle sheet SEED N           the linked sheet library against the Rust on N valid and N damaged sheets
 oracle run-report PROGRAM SEED N    the program report against the Rust
-oracle lists DIR [SCALE]      the frozen lists (FORMATS.md); SCALE makes those of single functions longer";
+oracle lists DIR [SCALE]      the frozen lists (FORMATS.md); SCALE above 1 makes longer ones";
 
 fn main() {
     let args: Vec<String> = std::env::args().skip(1).collect();
