@@ -406,6 +406,9 @@ pub fn limits(full: bool) -> Vec<(&'static str, Sheet)> {
         relations.push(last);
         Sheet { bodies: vec![body(1.0), Body { fixed: 1, ..world }], relations }
     };
+    // A normal so short that the damping is measured by its least figure, not by the slopes.
+    let short_normal = End { direction: [0.0, 0.0, 1e-8], ..plane(GROUND, 0.0) };
+    let short = Relation { offset: 1e-7, ..mate(short_normal, point(0, 0.5)) };
     let fixed_at = |x: f64| Sheet { bodies: vec![Body { fixed: 1, ..body(x) }], relations: vec![mate(point(GROUND, 0.0), point(0, 0.0))] };
     let within = 1e-9f64;
     let mut largest =
@@ -421,6 +424,7 @@ pub fn limits(full: bool) -> Vec<(&'static str, Sheet)> {
         ("64 unnamed bodies", Sheet { bodies: vec![world; 64], relations: vec![] }),
         ("128 relations of the ground", Sheet { bodies: vec![world], relations: vec![mate(point(GROUND, 0.0), point(GROUND, 0.0)); 128] }),
         ("half a turn off", Sheet { bodies: vec![world], relations: vec![mate(plane(GROUND, 0.0), plane(0, 0.0))] }),
+        ("slopes of 1e-8", Sheet { bodies: vec![world], relations: vec![short] }),
         ("800 rows", rows(mate(plane(GROUND, 0.0), line(0)))),
         ("801 rows", rows(mate(point(GROUND, 0.0), point(0, 0.0)))),
     ];
