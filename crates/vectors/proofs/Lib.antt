@@ -2,3 +2,4 @@
 pub mod Flat
 pub mod Sorting
 pub mod Eigen6Laws
+pub mod SpanLaws

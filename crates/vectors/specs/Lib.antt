@@ -10,4 +10,5 @@ pub mod Eigen
 pub mod Flat
 pub mod Eigen6
 pub mod Span
+pub mod Basis
 pub mod Sorted
