@@ -2,3 +2,4 @@ pub mod Values
 pub mod MemoryLaws
 pub mod TableLaws
 pub mod RecordLaws
+pub mod LmLaws

@@ -12,3 +12,4 @@ pub mod RowBoundLaws
 pub mod Record
 pub mod Count
 pub mod CountLaws
+pub mod LmPosts

@@ -6,3 +6,4 @@ pub mod model;
 pub mod rows;
 pub mod record;
 pub mod snap;
+pub mod lm;
