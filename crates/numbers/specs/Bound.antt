@@ -6,6 +6,8 @@ use native.Mathlib.Nat.{le-trans, mul-le-mul-right, le-of-mul-le-mul-right, le-m
 use native.Mathlib.Omega.{arith}
 use mathlib.Core.Bool.{Bool, true, false, _&&_, _||_, cond}
 use mathlib.Core.List.{List, [], _∷_, map}
+use lib.ListN.{length, replicate}
+use mathlib.Core.Path.{_≡_, refl, ap}
 use lib.Dec.{T, leb, ltb, eqb, eqb→eq, leb→le}
 use lib.IntN.{ℤ}
 use lib.Ieee.{Float, nan, inf, fin, up, down, binary64, add, sub, mul, neg, lt, le}
@@ -89,6 +91,29 @@ bounded =
 -- a double of magnitude at most m / S
 abbrev pub input : (m : ℕ) (x : Float) → Small m x → Bounded
 input m x h = record { double = x; frac = fracOf x; bound = exactly m; near = λ t. near-self x m (h .0) (h .1) }
+
+-- ---- lists of them
+-- each is finite, of magnitude at most m / S
+abbrev pub AllSmall : ℕ → List Float → Type 0
+AllSmall m [] = Unit {0}
+AllSmall m (x ∷ l) = Small m x × AllSmall m l
+
+-- doubles of at most k / S each
+abbrev pub inputs : (k : ℕ) (cs : List Float) → AllSmall k cs → List Bounded
+inputs k [] a = []
+inputs k (c ∷ cs) a = input k c (a .0) ∷ inputs k cs (a .1)
+
+pub inputs-double : (k : ℕ) (cs : List Float) (a : AllSmall k cs) → map (λ c. c .double) (inputs k cs a) ≡ cs
+inputs-double k [] a = refl
+inputs-double k (c ∷ cs) a = ap (λ (l : List Float). c ∷ l) (inputs-double k cs (a .1))
+
+pub inputs-frac : (k : ℕ) (cs : List Float) (a : AllSmall k cs) → map (λ c. c .frac) (inputs k cs a) ≡ map fracOf cs
+inputs-frac k [] a = refl
+inputs-frac k (c ∷ cs) a = ap (λ (l : List Frac). fracOf c ∷ l) (inputs-frac k cs (a .1))
+
+pub inputs-bound : (k : ℕ) (cs : List Float) (a : AllSmall k cs) → map (λ c. c .bound) (inputs k cs a) ≡ replicate (length cs) (exactly k)
+inputs-bound k [] a = refl
+inputs-bound k (c ∷ cs) a = ap (λ (l : List Bound). exactly k ∷ l) (inputs-bound k cs (a .1))
 
 -- ---- rows of them, within 1 / R
 abbrev pub good : ℕ → Bound → Bool

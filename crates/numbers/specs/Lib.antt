@@ -14,3 +14,5 @@ pub mod Largest
 pub mod DiffersLaws
 pub mod Bound
 pub mod Loops
+pub mod HornerNear
+pub mod SumNear

@@ -5,16 +5,16 @@ use Prim.Native.Nat.{ℕ, suc, _+_, _-_, _*_, _/_, _^_, _≤_, _<_}
 use native.Mathlib.Nat.{le-trans, le-of-eq, lt-of-lt-of-le, lt-of-le-of-lt, mul-le-mul-right, mul-lt-mul-of-pos-right, le-of-mul-le-mul-right, mul-pos, lt-div-mul-add}
 use native.Mathlib.Omega.{arith}
 use mathlib.Core.Bool.{Bool, true, false, not, _&&_, cond}
-use lib.Dec.{T, leb, ltb, leb→le, ltb→lt, nltb→le}
+use lib.Dec.{T, leb, ltb, leb→le, ltb→lt, nltb→le, le→leb}
 use lib.Pow.{pow-add, pow-pos, pow-mono}
 use lib.IntN.{ℤ, pos, negℤ}
 use lib.Ieee.{Float, nan, inf, fin, Format, binary64, prec, emax, low, up, down, unlike, size, round, neg, sum, add, sub, mul}
-use lib.Ieee.Digits.{size-lt}
+use lib.Ieee.Digits.{size-lt, size-le}
 use lib.Ieee.Fits.{down-pos, and-l, and-r}
 use lib.Ieee.Exact.{HasValue}
 use lib.Ieee.Scale.{finite}
 use Rattle.numbers.specs.Round.{round-moves}
-use Rattle.numbers.specs.Close.{Signed, addS, mulS, Close, Mag, ring, close-trans, close-add, close-mul, close-neg, close-self, close-same, close-sym, mag-add, mag-mul}
+use Rattle.numbers.specs.Close.{Signed, addS, mulS, Close, Mag, ring, close-trans, close-add, close-mul, close-neg, close-self, close-same, close-sym, mag-add, mag-mul, under-more}
 use Rattle.numbers.specs.Frac.{Frac, fracOf, addQ, mulQ, negQ, subQ}
 use Rattle.numbers.specs.Parts.{plusPart, minusPart, plusPart-neg, minusPart-neg, plusPart-mul, minusPart-mul, add-parts}
 
@@ -66,6 +66,7 @@ round-close f w t i s r c L C below fine =
     scale r A S B c pA h = simp ring (simp ring at (mul-lt-mul-of-pos-right h pA))
 
 -- ---- the unit of bounds, and a bound
+-- bounds count units of 2 ^ -80: half a last place of a double from 1 to 2 is 2 ^ 27 of them, and a smaller value is charged one unit at least
 unfoldable pub S : ℕ
 S = 2 ^ 80
 
@@ -263,3 +264,27 @@ near-self (fin true n e) m f h =
       most = subst (λ (z : Signed). Mag S z m) w h;
       close = subst (λ (z : Signed). Close S (valueOf (fin true n e)) z 0) w (close-self S (valueOf (fin true n e)));
     }
+
+-- ---- looser bounds
+abbrev pub upTo : ℕ → ℕ → Bound
+upTo m e = record { ok = true; most = m; off = e }
+
+pub near-weaken : (x : Float) (X : Frac) (b : Bound) (m e : ℕ) → b .most ≤ m → b .off ≤ e → Near x X b → Near x X (upTo m e)
+near-weaken x X b m e l k h =
+    record {
+      is-finite = h .is-finite;
+      den-pos = h .den-pos;
+      most = le-trans (h .most) (mul-le-mul-right (X .den) l);
+      close = (under-more S (valueOf x) (partsOf X) (b .off) e k (h .close .0), under-more S (partsOf X) (valueOf x) (b .off) e k (h .close .1));
+    }
+
+-- below 2 ^ (54 + i) units rounding moves by at most 2 ^ i of them
+pub rounds-by : (m e i : ℕ) → i ≤ 1000 → m + e < 2 ^ (54 + i) → T (roundBound true m e .ok) × (roundBound true m e .off ≤ e + 2 ^ i)
+unfolding roundBound
+rounds-by m e i I h =
+    let l : size (m + e) - 54 ≤ i = less (size (m + e)) i (size-le (m + e) (54 + i) h) in
+    let p : 2 ^ (size (m + e) - 54) ≤ 2 ^ i = pow-mono l in
+    (le→leb (size (m + e) - 54) 1000 (le-trans l I), omega arith)
+  where
+    less : (z i : ℕ) → z ≤ 54 + i → z - 54 ≤ i
+    less z i h = omega arith

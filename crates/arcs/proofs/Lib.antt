@@ -1,0 +1,3 @@
+pub mod NanQuotient
+pub mod RoundSelf
+pub mod Remainder

@@ -1,0 +1,107 @@
+-- Sine and cosine of t ≥ 0 and the arctangent of (y, x), operation by operation, each rounded once. Document 01, "The train of files", item 1, whose letters
+-- T, P, H, E, a, q, b, z, s, c, u, v these are. The root stands in Root.antt. Definitions only.
+use Prim.Native.Nat.{ℕ, zero, suc, _+_}
+use mathlib.Core.Bool.{Bool, true, false, not, _&&_, cond}
+use lib.IntN.{pos}
+use lib.Ieee.{Float, nan, binary64, add, sub, mul, div, rem, neg, lt, eq, ofInt, ofBits}
+use Rattle.numbers.specs.Double.{zero64, one64, negative, isFinite, abs}
+use Rattle.numbers.specs.Ops.{doubles}
+use Rattle.numbers.specs.Horner.{horner}
+use Rattle.arcs.specs.Coefs.{sineCoefs, cosineCoefs, arctangentCoefs}
+use Rattle.arcs.specs.declared.arc.SineCosine.{SineCosine}
+
+-- T, P, H, E: 2π, π, π/2, π/4
+abbrev pub tau : Float
+tau = ofBits binary64 0x4019_21FB_5444_2D18
+
+abbrev pub pi : Float
+pi = ofBits binary64 0x4009_21FB_5444_2D18
+
+abbrev pub halfPi : Float
+halfPi = ofBits binary64 0x3FF9_21FB_5444_2D18
+
+abbrev pub quarterPi : Float
+quarterPi = ofBits binary64 0x3FE9_21FB_5444_2D18
+
+-- 3E, 5E, 7E
+abbrev pub three : Float
+three = mul binary64 (ofBits binary64 0x4008_0000_0000_0000) quarterPi
+
+abbrev pub five : Float
+five = mul binary64 (ofBits binary64 0x4014_0000_0000_0000) quarterPi
+
+abbrev pub seven : Float
+seven = mul binary64 (ofBits binary64 0x401C_0000_0000_0000) quarterPi
+
+-- the double nearest √2 - 1
+abbrev pub rootTwoLess : Float
+rootTwoLess = ofBits binary64 0x3FDA_8279_99FC_EF32
+
+-- 1 where the edge lies below a, else 0
+unfoldable pub passed : Float → Float → ℕ
+passed edge a = cond (lt edge a) 1 0
+
+-- q: how many of E, 3E, 5E, 7E lie below a
+unfoldable pub quarters : Float → ℕ
+unfolding passed
+quarters a = passed quarterPi a + passed three a + passed five a + passed seven a
+
+abbrev pub both : Float → Float → SineCosine
+both s c = record { sine = s; cosine = c }
+
+-- the pair by q
+unfoldable pub turned : ℕ → Float → Float → SineCosine
+turned zero s c = both s c
+turned (suc zero) s c = both c (neg s)
+turned (suc (suc zero)) s c = both (neg s) (neg c)
+turned (suc (suc (suc zero))) s c = both (neg c) s
+turned (suc (suc (suc (suc q)))) s c = both s c
+
+-- the pair of a finite t ≥ 0
+unfoldable pub sineCosineOf : Float → SineCosine
+sineCosineOf t =
+    let a = rem binary64 t tau in
+    let q = quarters a in
+    let b = sub binary64 a (mul binary64 (ofInt binary64 (pos q)) halfPi) in
+    let z = mul binary64 b b in
+    turned q (mul binary64 b (horner doubles sineCoefs z)) (horner doubles cosineCoefs z)
+
+unfoldable pub sineCosine : Float → SineCosine
+sineCosine t = cond (isFinite t && not (lt t zero64)) (sineCosineOf t) (both nan nan)
+
+abbrev pub sine : Float → Float
+sine t = sineCosine t .sine
+
+abbrev pub cosine : Float → Float
+cosine t = sineCosine t .cosine
+
+-- the series of v, through (v * v)^19
+unfoldable pub series : Float → Float
+series v = mul binary64 v (horner doubles arctangentCoefs (mul binary64 v v))
+
+-- the arctangent of a ratio u from 0 to 1
+unfoldable pub ofRatio : Float → Float
+unfolding series
+ofRatio u =
+    cond (lt rootTwoLess u) (add binary64 quarterPi (series (div binary64 (sub binary64 u one64) (add binary64 u one64)))) (series u)
+
+-- u: the smaller magnitude over the larger, 0 if both are 0
+unfoldable pub ratio : Float → Float → Float
+ratio small large = cond (eq large zero64) zero64 (div binary64 small large)
+
+-- of two magnitudes, y's and x's
+unfoldable pub ofMagnitudes : Float → Float → Float
+unfolding ofRatio ratio
+ofMagnitudes y x = cond (lt x y) (sub binary64 halfPi (ofRatio (ratio x y))) (ofRatio (ratio y x))
+
+-- of two finite doubles
+unfoldable pub arctangentOf : Float → Float → Float
+unfolding ofMagnitudes
+arctangentOf y x =
+    let w = ofMagnitudes (abs y) (abs x) in
+    let p = cond (negative x) (sub binary64 pi w) w in
+    cond (negative y) (neg p) p
+
+unfoldable pub arctangent : Float → Float → Float
+unfolding arctangentOf
+arctangent y x = cond (isFinite y && isFinite x) (arctangentOf y x) nan

@@ -1,0 +1,52 @@
+-- Each coefficient is the double nearest to its fraction, and the bound of the arctangent the double nearest to √2 - 1. Document 01, "The train of files", item 1.
+-- Each fact is computed: the fractions are rounded and compared with the bits. Assumes nothing.
+use Prim.Native.Nat.{ℕ, zero, suc, _+_, _*_}
+use mathlib.Core.Path.{_≡_, refl}
+use mathlib.Core.Bool.{Bool, true, false, not}
+use mathlib.Core.List.{List, [], _∷_}
+use lib.IntN.{pos}
+use lib.Ieee.{Float, binary64, round, ofBits}
+use Rattle.numbers.specs.Frac.{Frac, addQ, mulQ, ltQ, fracOf}
+use Rattle.arcs.specs.Coefs.{sineCoefs, cosineCoefs, arctangentCoefs}
+use Rattle.arcs.specs.Arcs.{rootTwoLess}
+
+unfoldable pub factorial : ℕ → ℕ
+factorial zero = 1
+factorial (suc n) = suc n * factorial n
+
+-- n doubles of alternating sign: the nearest to 1 over each of d k, d (k + 2), d (k + 4), ..; the first is negative where s is true
+unfoldable pub reciprocals : (ℕ → ℕ) → Bool → ℕ → ℕ → List Float
+unfolding round
+reciprocals d s k zero = []
+reciprocals d s k (suc n) = round binary64 s 1 (d k) ∷ reciprocals d (not s) (suc (suc k)) n
+
+-- 1/1!, -1/3!, .. 1/17!
+pub sine-coefs : sineCoefs ≡ reciprocals factorial false 1 9
+unfolding reciprocals factorial ofBits
+sine-coefs = refl
+
+-- 1/0!, -1/2!, .. 1/16!
+pub cosine-coefs : cosineCoefs ≡ reciprocals factorial false 0 9
+unfolding reciprocals factorial ofBits
+cosine-coefs = refl
+
+-- 1/1, -1/3, .. -1/39
+pub arctangent-coefs : arctangentCoefs ≡ reciprocals (λ j. j) false 1 20
+unfolding reciprocals ofBits
+arctangent-coefs = refl
+
+-- the number halfway between two doubles, and 1
+unfoldable pub oneAndHalfway : Float → Float → Frac
+oneAndHalfway x y = addQ (record { num = pos 1; den = 1 }) (mulQ (addQ (fracOf x) (fracOf y)) (record { num = pos 1; den = 2 }))
+
+abbrev pub two : Frac
+two = record { num = pos 2; den = 1 }
+
+-- √2 - 1 lies above the number halfway to the double before, and below the number halfway to the double after
+pub root-two-less-above : (let h = oneAndHalfway (ofBits binary64 0x3FDA_8279_99FC_EF31) rootTwoLess in ltQ (mulQ h h) two) ≡ true
+unfolding oneAndHalfway ltQ mulQ addQ fracOf ofBits
+root-two-less-above = refl
+
+pub root-two-less-below : (let h = oneAndHalfway rootTwoLess (ofBits binary64 0x3FDA_8279_99FC_EF33) in ltQ two (mulQ h h)) ≡ true
+unfolding oneAndHalfway ltQ mulQ addQ fracOf ofBits
+root-two-less-below = refl

@@ -1,0 +1,5 @@
+// The root, sine, cosine and arctangent.
+
+pub mod arc;
+pub mod horner;
+pub mod root;

@@ -1,0 +1,92 @@
+// The square root of a double, as IEEE 754 has it: in whole numbers, one binary digit at a time, and rounded once.
+ghost use Prim.Native.Nat.{_+_, _*_, _/_, _%_, _^_, _≤_, _<_};
+ghost use lib.Dec.{T};
+ghost use lib.Ieee.Positive.{positive};
+ghost use Rattle.arcs.specs.Root.{CorrectRoot};
+ghost use Rattle.arcs.specs.RootNearest.{WholeRoot};
+ghost use Rattle.arcs.specs.RootSteps.{field, significand, exponent, Even};
+
+// the weights of the exponent's field and of the sign in a double's bits: 2^52 and 2^63
+const FIELD: u64 = 0x10_0000_0000_0000;
+
+const SIGN: u64 = 0x8000_0000_0000_0000;
+
+// A number under the root: m * 2^52 * 4^k
+struct Radicand {
+    m: u64,
+    k: u64,
+}
+
+// n * 2^(e + 1074) with 53 or 54 digits in m: so many that the root's whole part has 53.
+fn scaled(n: u64, e: u64) -> Radicand
+    requires { ⌜ (0 < n) × (n < 2 ^ 53) × (e ≤ 2045) ⌝ }
+    ensures { λ r. ⌜ Even n (e + 1074) (r .m) (r .k) ⌝ }
+{
+    let s = u64::leading_zeros(n) as u64 - 11;
+    let j = e + 1074 - s;
+    Radicand {
+        m: n << (s + j % 2),
+        k: (j - 52) / 2,
+    }
+}
+
+// The finite double with the bits b, other than 0, as a number under the root.
+fn opened(b: u64) -> Radicand
+    requires { ⌜ (0 < significand b) × (field b < 2047) ⌝ }
+    ensures { λ r. ⌜ Even (significand b) (exponent b + 1074) (r .m) (r .k) ⌝ }
+{
+    let field = b % SIGN / FIELD;
+    let digits = b % FIELD;
+    if field == 0 {
+        scaled(digits, 0)
+    } else {
+        scaled(FIELD + digits, field - 1)
+    }
+}
+
+// The whole number nearest to the root of m * 2^52. Each turn brings down two more binary digits of m * 2^52 from `rest` and finds the root's next digit: of the part
+// brought down so far, q is the root's whole part and `rem` what is left over q * q.
+fn whole_root(m: u64) -> u64
+    requires { ⌜ (2 ^ 52 ≤ m) × (m < 2 ^ 54) ⌝ }
+    ensures { λ r. ⌜ WholeRoot (m * 2 ^ 52) r ⌝ }
+{
+    let mut q: u64 = 0;
+    let mut rem: u64 = 0;
+    let mut rest = m * 0x400;
+    let mut i: u64 = 0;
+    while i < 53 {
+        let more = rem * 4 + rest / 0x4000_0000_0000_0000;
+        rest = rest % 0x4000_0000_0000_0000 * 4;
+        if q * 4 < more {
+            rem = more - (q * 4 + 1);
+            q = q * 2 + 1;
+        } else {
+            rem = more;
+            q = q * 2;
+        }
+        i += 1;
+    }
+    if q < rem { q + 1 } else { q }
+}
+
+// The root of a finite double above 0.
+fn positive_root(x: f64) -> f64
+    requires { ⌜ T (positive x) ⌝ }
+    ensures { λ r. ⌜ CorrectRoot x r ⌝ }
+{
+    let n = opened(f64::to_bits(x));
+    let q = whole_root(n.m);
+    f64::from_bits(n.k * FIELD + q)
+}
+
+// The double nearest to the square root of x: a zero gives itself, +infinity itself, a NaN and what is below 0 a NaN.
+#[no_mangle]
+pub extern "C" fn root(x: f64) -> f64
+    ensures { λ r. ⌜ CorrectRoot x r ⌝ }
+{
+    if x > 0.0 {
+        if x == 1.0 / 0.0 { x } else { positive_root(x) }
+    } else {
+        if x == 0.0 { x } else { 0.0 / 0.0 }
+    }
+}
