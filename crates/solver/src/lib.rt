@@ -1,3 +1,4 @@
 // The assembly solver: geometry.rs, lm.rs and solve.rs of tenon, with JointKind of model.rs.
 pub mod geometry;
+pub mod lm;
 pub mod model;
