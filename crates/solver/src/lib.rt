@@ -2,3 +2,4 @@
 pub mod geometry;
 pub mod lm;
 pub mod model;
+pub mod record;
