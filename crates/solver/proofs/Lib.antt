@@ -1,3 +1,4 @@
 pub mod MemoryLaws
 pub mod TableLaws
 pub mod RecordLaws
+pub mod DenseLaws

@@ -8,3 +8,4 @@ pub mod Solve
 pub mod Dof
 pub mod Memory
 pub mod Record
+pub mod Dense

@@ -1,4 +1,5 @@
 // The assembly solver: geometry.rs, lm.rs and solve.rs of tenon, with JointKind of model.rs.
+pub mod dense;
 pub mod geometry;
 pub mod lm;
 pub mod model;
