@@ -3,3 +3,4 @@ pub mod MemoryLaws
 pub mod TableLaws
 pub mod RecordLaws
 pub mod LmLaws
+pub mod DenseLaws

@@ -13,3 +13,4 @@ pub mod Record
 pub mod Count
 pub mod CountLaws
 pub mod LmPosts
+pub mod Dense

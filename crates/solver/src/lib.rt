@@ -2,8 +2,9 @@
 pub mod count;
 pub mod geometry;
 pub mod judge;
+pub mod dense;
+pub mod lm;
 pub mod model;
 pub mod rows;
 pub mod record;
 pub mod snap;
-pub mod lm;
