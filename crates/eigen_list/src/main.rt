@@ -1,5 +1,6 @@
-// Replays the Rust's answers of `sym_eigen` on lent memory, one list after another, and prints how many answers each list holds and how many of them differ here.
+// Replays the Rust's answers of `sym_eigen`, on lent memory and by value, and of `span_basis`, one list after another, and prints how many answers each list holds and how many of them differ here.
 // All bits are compared; all NaNs are the same. data/ has copies of lists of oracle/lists, whose formats oracle/FORMATS.md gives.
+mod by_value;
 mod list;
 
 ghost use Prim.Native.Nat.{_*_, _≤_, _<_};
@@ -90,12 +91,23 @@ fn record(fd: i32) -> bool {
     values && vectors
 }
 
-fn replay(fd: i32) -> Tally {
+// Which function a list is replayed on: 0 `sym_eigen` on lent memory, 1 by value, 2 `span_basis`.
+fn judge(fd: i32, which: u8) -> bool {
+    if which == 0 {
+        record(fd)
+    } else if which == 1 {
+        by_value::eigen_record(fd)
+    } else {
+        by_value::span_record(fd)
+    }
+}
+
+fn replay(fd: i32, which: u8) -> Tally {
     let n = next(fd);
     let mut wrong = 0u64;
     let mut i = 0u64;
     while i < n {
-        if !record(fd) {
+        if !judge(fd, which) {
             wrong = wrapping_add_u64(wrong, 1);
         }
         i += 1;
@@ -112,18 +124,21 @@ fn say(name: &[u8], t: Tally) {
     io::write_all(1, b"\n");
 }
 
-fn replay_file(path: &[u8]) {
+fn replay_file(path: &[u8], which: u8) {
     let fd = os::open_read(path);
     if fd < 0 {
         os::fail(path);
         return;
     }
-    let t = replay(fd);
+    let t = replay(fd, which);
     libc::close(fd);
     say(path, t);
 }
 
 fn main() {
-    replay_file(b"sym_eigen3.bin");
-    replay_file(b"sym_eigen_any.bin");
+    replay_file(b"sym_eigen3.bin", 0);
+    replay_file(b"sym_eigen_any.bin", 0);
+    replay_file(b"sym_eigen3.bin", 1);
+    replay_file(b"sym_eigen6.bin", 1);
+    replay_file(b"span_basis.bin", 2);
 }

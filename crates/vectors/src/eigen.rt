@@ -90,7 +90,7 @@ fn settled(m: &[f64], n: usize) -> bool
 }
 
 // The tangent of the angle that clears the entry pq.
-fn tangent(app: f64, aqq: f64, apq: f64) -> f64
+pub fn tangent(app: f64, aqq: f64, apq: f64) -> f64
     ensures { λ r. ⌜ r ≡ spec.tangentOf app aqq apq ⌝ }
 {
     let theta = (aqq - app) / (2.0 * apq);
@@ -102,7 +102,7 @@ fn tangent(app: f64, aqq: f64, apq: f64) -> f64
 }
 
 // The cosine of the angle whose tangent is t.
-fn cosine(t: f64) -> f64
+pub fn cosine(t: f64) -> f64
     ensures { λ r. ⌜ r ≡ spec.cosineOf t ⌝ }
 {
     1.0 / sqrt(t * t + 1.0)

@@ -1,6 +1,6 @@
 // `sym_eigen` of math.rs for the six-by-six of one body and the three-by-three inside it: arrays of arrays by value, of which the first n rows and columns count.
 ghost use mathlib.Core.Path.{_≡_};
-ghost use Prim.Native.Nat.{ℕ, _+_, _*_, _-_, _<_, _≤_};
+ghost use Prim.Native.Nat.{_-_, _<_, _≤_};
 ghost use mathlib.Core.Bool.{cond};
 ghost use mathlib.Core.List.{_++_};
 ghost use lib.ListN.{take, drop, replicate};
@@ -10,7 +10,8 @@ ghost use Rattle.vectors.specs.Insertion as insertion;
 ghost use Rattle.vectors.specs.Eigen as eigen;
 ghost use Rattle.vectors.specs.Flat.{flat, at, turnEntries};
 ghost use Rattle.vectors.specs.Eigen6.{eigens6, past6, lower6, rotationAt};
-use crate::root::sqrt;
+use crate::eigen::cosine;
+use crate::eigen::tangent;
 
 // An eigenvalue with its vector, of which the first n entries count.
 pub struct Eigen6 {
@@ -19,10 +20,10 @@ pub struct Eigen6 {
 }
 
 // The cosine and sine of a turn, or no turn.
-pub struct Rotation {
-    pub turns: bool,
-    pub c: f64,
-    pub s: f64,
+struct Rotation {
+    turns: bool,
+    c: f64,
+    s: f64,
 }
 
 // Turns the entries ij and kl.
@@ -120,25 +121,6 @@ fn settled(m: [[f64; 6]; 6], n: usize) -> bool
     let off = off(m, n);
     let scale = numbers::max(diag(m, n), 1e-300);
     off <= scale * 1e-30
-}
-
-// The tangent of the angle that clears the entry pq.
-fn tangent(app: f64, aqq: f64, apq: f64) -> f64
-    ensures { λ r. ⌜ r ≡ eigen.tangentOf app aqq apq ⌝ }
-{
-    let theta = (aqq - app) / (2.0 * apq);
-    if theta == 0.0 {
-        1.0
-    } else {
-        numbers::signum(theta) / (numbers::abs(theta) + sqrt(theta * theta + 1.0))
-    }
-}
-
-// The cosine of the angle whose tangent is t.
-fn cosine(t: f64) -> f64
-    ensures { λ r. ⌜ r ≡ eigen.cosineOf t ⌝ }
-{
-    1.0 / sqrt(t * t + 1.0)
 }
 
 // The rotation that clears the entry pq, unless it is next to nothing already.

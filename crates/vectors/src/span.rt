@@ -1,6 +1,6 @@
 // `span_basis` of math.rs for at most six vectors.
 ghost use mathlib.Core.Path.{_≡_};
-ghost use Prim.Native.Nat.{ℕ, _<_, _≤_};
+ghost use Prim.Native.Nat.{_<_, _≤_};
 ghost use mathlib.Core.List.{_++_, map};
 ghost use lib.ListN.{take, drop};
 ghost use Rattle.numbers.specs.Double.{zero64};

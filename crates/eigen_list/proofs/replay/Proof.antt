@@ -5,10 +5,10 @@ use Rattle.eigen_list.proofs.replay.Statement.{statement}
 use Rattle.eigen_list.proofs.replay.Tie as tie
 
 abbrev Inv-loop : tie.InvT-loop
-Inv-loop fd n wrong₀ i₀ wrong i = i ≤ n
+Inv-loop fd which n wrong₀ i₀ wrong i = i ≤ n
 
 abbrev μ-loop : tie.MeasureT-loop
-μ-loop fd n wrong₀ i₀ wrong i = n - i
+μ-loop fd which n wrong₀ i₀ wrong i = n - i
 
 next-requires : tie.Need-next-requires Inv-loop μ-loop
 next-requires c κs = tt
@@ -16,8 +16,8 @@ next-requires c κs = tt
 loop-holds : tie.Need-loop-holds Inv-loop μ-loop
 loop-holds c = omega arith
 
-record-requires : tie.Need-record-requires Inv-loop μ-loop
-record-requires c κs = tt
+judge-requires : tie.Need-judge-requires Inv-loop μ-loop
+judge-requires c κs = tt
 
 wrapping-add-u64-requires : tie.Need-wrapping-add-u64-requires Inv-loop μ-loop
 wrapping-add-u64-requires c κs = tt
@@ -42,7 +42,7 @@ replay-spec =
     μ-loop
     next-requires
     loop-holds
-    record-requires
+    judge-requires
     wrapping-add-u64-requires
     add-i
     loop-less
