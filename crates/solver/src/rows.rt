@@ -706,39 +706,21 @@ pub fn residual(rel: Rel, qa: Pose, qb: Pose, qs: Pose) -> Rows
     let law = rel.law;
     let a = rel.a;
     let b = rel.b;
+    let pa = a.placed(qa);
+    let pb = b.placed(qb);
     match law {
-        Law::Mate { offset } => mate(offset, mate_prim(a.placed(qa)), mate_prim(b.placed(qb))),
-        Law::Flush { offset } => flush(offset, a.placed(qa), b.placed(qb)),
+        Law::Mate { offset } => mate(offset, mate_prim(pa), mate_prim(pb)),
+        Law::Flush { offset } => flush(offset, pa, pb),
         Law::Angle {
             angle: want,
             reference,
         } => {
             let r = qa.r;
-            angle(
-                want,
-                r.apply(reference),
-                a.placed(qa).direction(),
-                b.placed(qb).direction(),
-            )
+            angle(want, r.apply(reference), pa.direction(), pb.direction())
         }
-        Law::Insert { offset, aligned } => insert(offset, aligned, a.placed(qa), b.placed(qb)),
-        Law::Tangent { offset, inside } => {
-            tangent(
-                a.radius,
-                b.radius,
-                offset,
-                inside,
-                a.placed(qa),
-                b.placed(qb),
-            )
-        }
-        Law::Symmetry { plane } => {
-            symmetry(
-                plane.placed(qs),
-                mate_prim(a.placed(qa)),
-                mate_prim(b.placed(qb)),
-            )
-        }
+        Law::Insert { offset, aligned } => insert(offset, aligned, pa, pb),
+        Law::Tangent { offset, inside } => tangent(a.radius, b.radius, offset, inside, pa, pb),
+        Law::Symmetry { plane } => symmetry(plane.placed(qs), mate_prim(pa), mate_prim(pb)),
         Law::Joint {
             joint: kind,
             flip,
