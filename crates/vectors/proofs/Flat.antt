@@ -4,11 +4,11 @@ use Prim.Native.Nat.{ℕ, zero, suc, _+_, _*_, _<_, _≤_}
 use mathlib.Core.Path.{_≡_, refl, sym, ap, _∙_}
 use mathlib.Core.List.{List, [], _∷_, _++_}
 use native.Mathlib.Omega.{arith}
-use native.Mathlib.Nat.{zero-mul, suc-mul, zero-add, suc-add, suc-le-suc-iff, not-suc-le-zero, mul-le-mul-right}
+use native.Mathlib.Nat.{zero-mul, zero-add, suc-add, suc-le-suc-iff, not-suc-le-zero, mul-le-mul-right}
 use native.Mathlib.Decide.{decLt, ℕ-discrete}
-use lib.ListN.{length, getD, set, take, length-append, length-take, length-set, List·getD-append}
+use lib.ListN.{length, getD, set, take, length-append, length-set, List·getD-append}
 use lib.Seq.{length-take-le, getD-take, getD-append-add, getD-set-same, getD-set-other, set-append-left, take-set-lt}
-use lib.Ieee.{Float, nan, binary64, add, sub, mul}
+use lib.Ieee.{Float, nan, binary64}
 use mir.Val.{Val}
 use denote.Array.{Array, each}
 use denote.Floats.{FloatOf}

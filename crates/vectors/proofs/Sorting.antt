@@ -1,6 +1,6 @@
 -- Insertion in place is the sort: moving the element at i forward among the sorted ones before it is `insertLast` on their reverse, and i of such steps leave the first i elements
 -- sorted and the others where they were. A list filled from the front, and a sort of images. Assumes nothing.
-use Prim.Native.Nat.{ℕ, zero, suc, _+_, _-_, _<_, _≤_}
+use Prim.Native.Nat.{ℕ, zero, suc, _+_, _-_, _<_}
 use mathlib.Core.Path.{_≡_, refl, sym, ap, _∙_}
 use mathlib.Core.Bool.{Bool, true, false}
 use mathlib.Core.List.{List, [], _∷_, _++_, map, reverse, reverseAux, reverseAux-eq, append-assoc}

@@ -2,13 +2,13 @@
 -- -infinity 0, a negative number 1 + 1 / (1 + |x|), a positive one 3 + x / (1 + x), +infinity 5, NaN 6. Assumes nothing.
 use Prim.Native.Nat.{ℕ, _+_, _*_, _≤_, _<_}
 use mathlib.Core.Path.{_≡_, refl}
-use mathlib.Core.Bool.{Bool, true, false, not, _&&_, _||_, and-false}
+use mathlib.Core.Bool.{Bool, true, false, _&&_, _||_, and-false}
 use native.Mathlib.Omega.{arith}
 use native.Mathlib.Nat.{le-of-lt, not-le-of-lt, mul-le-mul-right, le-of-mul-le-mul-right, mul-pos}
 use borrow.Author.Tests.{eq-eqb, ltb-true, ltb-false}
 use lib.Dec.{ltb, eqb}
 use lib.Ieee.{Float, nan, inf, fin, lt, eq, isNan, up, down}
-use lib.Ieee.Fits.{up-pos, down-pos}
+use lib.Ieee.Fits.{down-pos}
 use Rattle.numbers.specs.Double.{before, negative}
 use Rattle.vectors.specs.SortLaws.{Order}
 

@@ -1,11 +1,11 @@
 -- What the stable sort of `Sort` does: it rearranges its list, leaves no element behind one that it stands before, and keeps the order of those that stand level.
 -- The first holds for any test, the others where the test is an order. Assumes nothing.
-use mathlib.Core.Path.{_≡_, refl, sym, ap, subst, _∙_}
+use mathlib.Core.Path.{_≡_, refl, sym, ap, _∙_}
 use mathlib.Core.Bool.{Bool, true, false, not, _&&_, cond, true≢false, Bool-set}
 use mathlib.Core.Logic.{Or·elim}
-use mathlib.Core.List.{List, [], _∷_, _++_, reverse, reverseAux, reverse-reverse, List·Mem, eq-or-mem-of-mem-cons, mem-cons-of-mem}
+use mathlib.Core.List.{List, [], _∷_, _++_, reverseAux, reverse-reverse, List·Mem, eq-or-mem-of-mem-cons}
 use mathlib.Core.List.{Perm, Perm·refl, Perm·cons, Perm·swap, Perm·trans, Perm·append-left, Perm·mem-iff, perm-middle, reverse-perm}
-use mathlib.Core.List.{List·Permᴰ, Permᴰ·append-nil}
+use mathlib.Core.List.{Permᴰ·append-nil}
 use mathlib.Core.List.{Pairwise, Pairwise·nil, Pairwise·cons, pairwise-cons, pairwise-singleton, pairwise-reverse}
 use Rattle.vectors.specs.Sort.{insertLast, sortLast, sort}
 

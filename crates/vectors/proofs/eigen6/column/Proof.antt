@@ -1,10 +1,10 @@
 -- `eigen6::column` meets its contract. The loop's invariant: the first k entries stand, the others are 0. Assumes nothing.
 use native.Mathlib.Omega.{arith}
 use Prim.Native.Nat.{_-_, _≤_}
-use mathlib.Core.Path.{_≡_, refl, sym, _∙_}
+use mathlib.Core.Path.{_≡_, refl}
 use mathlib.Core.List.{_++_}
 use native.Mathlib.Numerals.{add-one}
-use lib.ListN.{length, replicate}
+use lib.ListN.{replicate}
 use Rattle.numbers.specs.Double.{zero64}
 use Rattle.vectors.specs.Eigen.{column}
 use Rattle.vectors.specs.Flat.{flat}

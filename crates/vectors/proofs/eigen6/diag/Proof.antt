@@ -1,7 +1,7 @@
 -- `eigen6::diag` meets its contract. The loop's invariant: s is the sum of the first i squares. Assumes nothing.
 use native.Mathlib.Omega.{arith}
-use Prim.Native.Nat.{_+_, _*_, _-_, _<_, _≤_}
-use mathlib.Core.Path.{_≡_, refl, sym, _∙_}
+use Prim.Native.Nat.{_-_, _≤_}
+use mathlib.Core.Path.{_≡_, refl}
 use native.Mathlib.Numerals.{add-one}
 use Rattle.vectors.specs.Eigen.{diagTo}
 use Rattle.vectors.specs.Flat.{flat}

@@ -1,7 +1,7 @@
 -- `eigen6::pairs` meets its contract. The loop's invariant: the first i pairs stand, the others are 0. Assumes nothing.
 use native.Mathlib.Omega.{arith}
 use Prim.Native.Nat.{_-_, _≤_}
-use mathlib.Core.Path.{_≡_, refl, sym, ap, _∙_}
+use mathlib.Core.Path.{_≡_, refl}
 use mathlib.Core.List.{_++_, map}
 use native.Mathlib.Numerals.{add-one}
 use lib.ListN.{replicate}

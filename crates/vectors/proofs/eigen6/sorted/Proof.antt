@@ -1,7 +1,7 @@
 -- `eigen6::sorted` meets its contract. The loop's invariant: the first i pairs are sorted, the others untouched. Assumes nothing.
 use native.Mathlib.Omega.{arith}
 use Prim.Native.Nat.{_-_, _≤_}
-use mathlib.Core.Path.{_≡_, refl, sym, _∙_}
+use mathlib.Core.Path.{_≡_, _∙_}
 use lib.ListN.{length}
 use Rattle.vectors.specs.Eigen6.{lower6, past6}
 use Rattle.vectors.proofs.Sorting.{sortedTo, sorted-start, sorted-step, sorted-end}

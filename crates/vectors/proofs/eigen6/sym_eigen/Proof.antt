@@ -1,9 +1,9 @@
 -- `eigen6::sym_eigen` meets its contract. The loops' invariants: the row's first entries are cleared, the first rows are swept, and the sweeps left give what all would.
 -- Assumes nothing.
 use native.Mathlib.Omega.{arith}
-use Prim.Native.Nat.{_+_, _-_, _≤_, _<_}
-use mathlib.Core.Path.{_≡_, refl, sym, ap, _∙_}
-use Rattle.vectors.specs.Eigen.{turned, sweepRow, sweepTo, sweeps, symEigen}
+use Prim.Native.Nat.{_+_, _-_, _≤_}
+use mathlib.Core.Path.{_≡_, refl, sym, _∙_}
+use Rattle.vectors.specs.Eigen.{turned, sweepRow, sweepTo, sweeps}
 use Rattle.vectors.specs.Flat.{flat}
 use Rattle.vectors.proofs.Flat.{Grid, good-grid}
 use Rattle.vectors.proofs.Eigen6Laws.{rotate-step, row-start, row-step, sweep-step, sweeps-stop, sweeps-step, sweeps-end, finished}

@@ -1,13 +1,12 @@
 -- `span::join` meets its contract. Assumes nothing.
 use native.Mathlib.Omega.{arith}
 use borrow.Author.Needs.{needs}
-use mathlib.Core.Path.{_≡_, refl, sym, ap, _∙_}
+use mathlib.Core.Path.{ap, _∙_}
 use Prim.Native.Nat.{_+_}
 use mathlib.Core.Logic.{⊎-elim}
 use lib.ListN.{set, length-map}
 use lib.Ieee.{Float}
 use borrow.Author.Tests.{ltb-true}
-use Rattle.vectors.specs.declared.span.Basis.{Basis}
 use Rattle.vectors.specs.Vec.{Vec, vec, len, normalized}
 use Rattle.vectors.specs.Basis.{vec3}
 use Rattle.vectors.proofs.SpanLaws.{count-within, join-grows, join-stays}

@@ -1,7 +1,7 @@
 -- `span::sorted` meets its contract. The loop's invariant: the first i vectors are sorted, the others untouched. Assumes nothing.
 use native.Mathlib.Omega.{arith}
 use Prim.Native.Nat.{_-_, _≤_}
-use mathlib.Core.Path.{_≡_, refl, sym, _∙_}
+use mathlib.Core.Path.{_≡_, _∙_}
 use lib.ListN.{length}
 use Rattle.vectors.specs.Basis.{longer3, past3}
 use Rattle.vectors.proofs.Sorting.{sortedTo, sorted-start, sorted-step, sorted-end}

@@ -1,7 +1,7 @@
 -- `span::span_basis` meets its contract. The loop's invariant: `out` is the basis after the first i vectors of the sorted ones. Assumes nothing.
 use native.Mathlib.Omega.{arith}
 use Prim.Native.Nat.{_-_, _≤_}
-use mathlib.Core.Path.{_≡_, refl, sym, ap, _∙_}
+use mathlib.Core.Path.{_≡_, refl, sym}
 use mathlib.Core.List.{[]}
 use lib.ListN.{length}
 use lib.Ieee.{binary64, mul}
