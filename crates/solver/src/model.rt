@@ -1,10 +1,8 @@
 // What the solver works on: `Body`, `Law`, `End`, `Rel` and `Pose` of solve.rs, with `JointKind` of model.rs. `specs/Model.antt` has the definitions.
 ghost use mathlib.Core.Path.{_≡_};
-ghost use mathlib.Core.Option.{Option};
 ghost use Rattle.numbers.specs.Ops.{doubles};
 ghost use Rattle.vectors.specs.Vec.{vec};
-ghost use Rattle.vectors.specs.Space.{frame, made};
-ghost use Rattle.vectors.specs.Math.{frameOf, mat};
+ghost use Rattle.vectors.specs.Space.{frame};
 ghost use Rattle.solver.specs.Geometry as geometry;
 ghost use Rattle.solver.specs.Model as spec;
 use crate::geometry::Prim;

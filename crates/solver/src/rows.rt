@@ -14,7 +14,6 @@ use crate::model::JointKind;
 use crate::model::Law;
 use crate::model::Pose;
 use crate::model::Rel;
-use vectors::math::M3;
 use vectors::vec::Vec3;
 
 const PI: f64 = 3.141592653589793;
