@@ -4,10 +4,6 @@ use native.Mathlib.Omega.{arith}
 use borrow.Author.Needs.{needs}
 use Rattle.arc_list.proofs.replay.Statement.{statement}
 use Rattle.arc_list.proofs.replay.Tie as tie
-use Rattle.arc_list.proofs.replay.Reads as reads
-use Rattle.arc_list.proofs.replay.Lts as lts
-use Rattle.arc_list.proofs.counted.Reads as counted-reads
-use Rattle.io.proofs.read_full.Reads as read-full-reads
 
 abbrev Inv-loop : tie.InvT-loop
 Inv-loop n₀ i₀ n i = (i ≤ 100000)

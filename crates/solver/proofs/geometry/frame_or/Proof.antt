@@ -6,7 +6,6 @@ use Rattle.solver.proofs.geometry.frame_or.Tie as tie
 enum-known-f : tie.Need-enum-known-f
 enum-known-f c = search needs
 
--- /work/h/rows/target/rlib/vectors.rlib/interface/lang/src/vec.rt:3:25
 enum-told : tie.Need-enum-told
 enum-told c = search needs
 

@@ -17,11 +17,9 @@ target-dir-requires c κs = tt
 turn-to-requires : tie.Need-turn-to-requires
 turn-to-requires c κs = tt
 
--- /work/h/rows/target/rlib/vectors.rlib/interface/lang/src/vec.rt:4:22
 enum-told : tie.Need-enum-told
 enum-told c = search needs
 
--- /work/h/rows/target/rlib/vectors.rlib/interface/lang/src/vec.rt:4:22
 enum-told-2 : tie.Need-enum-told-2
 enum-told-2 c = search needs
 

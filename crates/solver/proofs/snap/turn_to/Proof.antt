@@ -11,7 +11,6 @@ enum-known-to c = search needs
 rotation-between-requires : tie.Need-rotation-between-requires
 rotation-between-requires c κs = tt
 
--- /work/h/rows/target/rlib/vectors.rlib/interface/lang/src/vec.rt:4:22
 enum-told : tie.Need-enum-told
 enum-told c = search needs
 
