@@ -10,7 +10,7 @@ ghost use Rattle.solver.specs.Lm as spec;
 ghost use Rattle.solver.specs.LmPosts.{MatrixRow, Matrix, Copied, Damped, Stepped};
 
 // From m on: infinity for a row that is not finite, else the larger of m and its magnitude.
-fn max_abs_step(m: f64, a: f64) -> f64
+pub fn max_abs_step(m: f64, a: f64) -> f64
     ensures { λ r. ⌜ r ≡ largest.maxAbsStep m a ⌝ }
 {
     if numbers::is_finite(a) {

@@ -9,6 +9,7 @@ ghost use Rattle.solver.specs.Model.{endOf, lawOf, pose};
 ghost use Rattle.solver.specs.Rows as spec;
 use crate::geometry::Direction;
 use crate::geometry::Prim;
+use crate::lm::max_abs_step;
 use crate::model::End;
 use crate::model::JointKind;
 use crate::model::Law;
@@ -153,18 +154,7 @@ impl Rows {
     }
 }
 
-// From m on: infinity for a row that is not finite, else the larger of m and its magnitude.
-fn max_abs_step(m: f64, a: f64) -> f64
-    ensures { λ r. ⌜ r ≡ largest.maxAbsStep m a ⌝ }
-{
-    if numbers::is_finite(a) {
-        numbers::max(m, numbers::abs(a))
-    } else {
-        1.0 / 0.0
-    }
-}
-
-// The same for row k of n; m where there is no such row.
+// The largest magnitude so far, with row k of n; m where there is no such row.
 fn max_abs_below(n: usize, k: usize, m: f64, a: f64) -> f64
     ensures { λ r. ⌜ r ≡ spec.stepBelow n k m a ⌝ }
 {

@@ -1,3 +1,4 @@
+-- `solver::lm::copy` meets its contract. Assumes nothing.
 use Rattle.solver.proofs.LmLaws.{copy-step}
 use Rattle.solver.proofs.MemoryLaws.{part-set-above, part-set-below, kept-refl, kept-set, part-length, kept-at-below}
 use Rattle.solver.specs.Memory.{part, Kept}

@@ -1,3 +1,4 @@
+-- `solver::lm::damp` meets its contract. Assumes nothing.
 use Rattle.solver.proofs.MemoryLaws.{part-set-above, part-set-below, kept-refl, kept-set, part-length, kept-at-below}
 use Rattle.solver.proofs.TableLaws.{in-rows}
 use Rattle.solver.proofs.LmLaws.{entry-at, set-entry}

@@ -1,3 +1,4 @@
+-- `solver::lm::diag_max` meets its contract. Assumes nothing.
 use borrow.Author.Needs.{needs}
 use Rattle.solver.proofs.TableLaws.{in-rows}
 use Rattle.solver.proofs.LmLaws.{entry-at}

@@ -1,3 +1,4 @@
+-- `solver::lm::gram` meets its contract. Assumes nothing.
 use native.Mathlib.Omega.{arith}
 use Rattle.solver.specs.Lm.{gramAt, sumFrom}
 use native.Mathlib.Numerals.{add-one}

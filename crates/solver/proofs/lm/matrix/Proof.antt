@@ -1,3 +1,4 @@
+-- `solver::lm::matrix` meets its contract. Assumes nothing.
 use Rattle.solver.proofs.LmLaws.{Entries, rows-step, rows-all, same-normal}
 use Rattle.solver.proofs.MemoryLaws.{kept-refl}
 use Rattle.solver.specs.Memory.{Kept}

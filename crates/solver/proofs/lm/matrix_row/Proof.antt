@@ -1,3 +1,4 @@
+-- `solver::lm::matrix_row` meets its contract. Assumes nothing.
 use Rattle.solver.proofs.LmLaws.{row-fits, matrix-step, left-value}
 use lib.ListN.{set}
 use lib.Ieee.{Float}

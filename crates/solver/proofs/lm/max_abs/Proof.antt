@@ -1,3 +1,4 @@
+-- `solver::lm::max_abs` meets its contract. Assumes nothing.
 use borrow.Author.Needs.{needs}
 use native.Mathlib.Omega.{arith}
 use Rattle.numbers.specs.Loops.{maxAbs-none, maxAbs-step}

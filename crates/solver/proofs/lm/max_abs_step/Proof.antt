@@ -1,3 +1,4 @@
+-- `solver::lm::max_abs_step` meets its contract. Assumes nothing.
 use Rattle.numbers.specs.MaxAbs.{maxAbsStep}
 use mathlib.Core.Path.{_∙_, sym}
 use lib.Ieee.{div, ofBits}

@@ -1,3 +1,4 @@
+-- `solver::lm::norm2` meets its contract. Assumes nothing.
 use native.Mathlib.Omega.{arith}
 use Rattle.solver.specs.Lm.{norm2, sumFrom}
 use Rattle.numbers.specs.Double.{zero64}

@@ -1,3 +1,4 @@
+-- `solver::lm::step` meets its contract. Assumes nothing.
 use Rattle.solver.proofs.LmLaws.{step-all}
 use Rattle.solver.proofs.LmLaws.{step-step, list-ext}
 use Rattle.solver.proofs.MemoryLaws.{kept-refl, part-length, part-at}

@@ -1,3 +1,4 @@
+-- `solver::lm::stepped_at` meets its contract. Assumes nothing.
 use Rattle.solver.proofs.LmLaws.{columnTerm, stepped-is}
 use Rattle.solver.proofs.TableLaws.{in-rows}
 use Rattle.solver.specs.Lm.{sumFrom}

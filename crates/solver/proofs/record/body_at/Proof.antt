@@ -1,3 +1,4 @@
+-- `solver::record::body_at` meets its contract. Assumes nothing.
 use Rattle.solver.specs.Record.{bodyAt}
 use borrow.Author.Needs.{needs}
 use Rattle.solver.proofs.record.body_at.Statement.{statement}

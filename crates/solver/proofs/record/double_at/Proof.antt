@@ -1,3 +1,4 @@
+-- `solver::record::double_at` meets its contract. Assumes nothing.
 use Rattle.solver.specs.Record.{doubleAt}
 use borrow.Author.Needs.{needs}
 use Rattle.solver.proofs.record.double_at.Statement.{statement}

@@ -1,3 +1,4 @@
+-- `solver::record::double_of` meets its contract. Assumes nothing.
 use lib.Ieee.{ofBits}
 use lib.Ieee.{div}
 use Rattle.solver.proofs.RecordLaws.{no-nan-bits, nan-bits}

@@ -1,3 +1,4 @@
+-- `solver::record::end_at` meets its contract. Assumes nothing.
 use Rattle.solver.specs.Record.{endAt}
 use borrow.Author.Needs.{needs}
 use Rattle.solver.proofs.record.end_at.Statement.{statement}

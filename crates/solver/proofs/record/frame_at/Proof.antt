@@ -1,3 +1,4 @@
+-- `solver::record::frame_at` meets its contract. Assumes nothing.
 use borrow.Author.Needs.{needs}
 use Rattle.solver.proofs.record.frame_at.Statement.{statement}
 use Rattle.solver.proofs.record.frame_at.Tie as tie

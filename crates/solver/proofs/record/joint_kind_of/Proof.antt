@@ -1,3 +1,4 @@
+-- `solver::record::joint_kind_of` meets its contract. Assumes nothing.
 use Rattle.solver.specs.Record.{jointKindAt}
 use native.Mathlib.Omega.{arith}
 use Rattle.solver.proofs.RecordLaws.{last-kind}

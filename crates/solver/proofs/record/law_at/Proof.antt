@@ -1,3 +1,4 @@
+-- `solver::record::law_at` meets its contract. Assumes nothing.
 use Prim.Native.Nat.{_≤_}
 use Rattle.solver.specs.Record.{lawBy, byteAt}
 use native.Mathlib.Omega.{arith}

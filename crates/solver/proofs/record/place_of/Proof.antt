@@ -1,3 +1,4 @@
+-- `solver::record::place_of` meets its contract. Assumes nothing.
 use borrow.Author.Tests.{eq-eqb, ne-eqb}
 use Rattle.solver.specs.Record.{bodyNumberAt}
 use Rattle.solver.proofs.record.place_of.Statement.{statement}

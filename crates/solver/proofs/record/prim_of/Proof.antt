@@ -1,3 +1,4 @@
+-- `solver::record::prim_of` meets its contract. Assumes nothing.
 use Rattle.solver.specs.Record.{primAt}
 use native.Mathlib.Omega.{arith}
 use Rattle.solver.proofs.RecordLaws.{last-prim}

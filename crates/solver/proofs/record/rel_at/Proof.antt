@@ -1,3 +1,4 @@
+-- `solver::record::rel_at` meets its contract. Assumes nothing.
 use Rattle.solver.specs.Record.{relAt}
 use borrow.Author.Needs.{needs}
 use Rattle.solver.proofs.record.rel_at.Statement.{statement}

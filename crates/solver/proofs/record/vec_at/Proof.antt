@@ -1,3 +1,4 @@
+-- `solver::record::vec_at` meets its contract. Assumes nothing.
 use borrow.Author.Needs.{needs}
 use Rattle.solver.proofs.record.vec_at.Statement.{statement}
 use Rattle.solver.proofs.record.vec_at.Tie as tie
