@@ -4,13 +4,15 @@ use mathlib.Core.Bool.{Bool, true, false, _&&_, cond}
 use mathlib.Core.List.{List, _∷_}
 use mathlib.Core.Option.{Option, none, some}
 use Prim.Native.Nat.{ℕ, zero, suc, _+_, _-_, _*_, _≤_, _<_}
-use native.Mathlib.Nat.{mul-le-mul-right, suc-mul, add-zero, add-suc}
+use native.Mathlib.Nat.{mul-le-mul-right, suc-mul, add-zero, add-suc, add-comm}
 use native.Mathlib.Omega.{arith}
 use lib.ListN.{length, getD, set, take}
 use lib.Seq.{getD-take, take-set-lt, take-set-le, drop-cons, length-take-le}
 use borrow.Author.Tests.{eq-eqb, ne-eqb}
-use lib.Ieee.{Float, nan, binary64, sub, mul, div, lt, le, eq, ofBits}
-use Rattle.numbers.specs.Double.{zero64, isFinite, fmax, abs}
+use lib.Dec.{ltb}
+use lib.Ieee.{Float, nan, inf, fin, binary64, sub, mul, div, neg, lt, le, eq, ofBits, up, down}
+use Rattle.numbers.specs.DoubleLaws.{abs-negative, abs-positive}
+use Rattle.numbers.specs.Double.{zero64, negative, isFinite, fmax, abs}
 use Rattle.solver.specs.Memory.{part, Kept}
 use Rattle.solver.specs.Lm.{System, largestTo, scaleOf, pivotTo, exchange, swapTo, pivoted, takeOffTo, clearRow, clearTo, clearColumn, eliminateTo, restTo, backTo, allFinite, answerOf, solveDense}
 use Rattle.solver.specs.Dense.{systemAt, PivotOf, Became, given, Reached, Dense}
@@ -20,6 +22,38 @@ use Rattle.solver.proofs.TableLaws.{in-rows}
 -- row r of n lies within the matrix
 pub row-fits : (r n : ℕ) → r < n → r * n + n ≤ n * n
 row-fits r n h = omega (arith, suc-mul r n, mul-le-mul-right n h)
+
+-- ---- a magnitude below a bound
+
+lt-neg : (x t : Float) → lt (neg x) t ≡ lt (neg t) x
+unfolding lt neg
+lt-neg nan nan = refl
+lt-neg nan (inf t) = refl
+lt-neg nan (fin t n d) = refl
+lt-neg (inf s) nan = refl
+lt-neg (inf true) (inf true) = refl
+lt-neg (inf true) (inf false) = refl
+lt-neg (inf false) (inf true) = refl
+lt-neg (inf false) (inf false) = refl
+lt-neg (inf s) (fin t n d) = refl
+lt-neg (fin s m e) nan = refl
+lt-neg (fin s m e) (inf t) = refl
+lt-neg (fin true m e) (fin true n d) = refl
+lt-neg (fin true m e) (fin false n d) = refl
+lt-neg (fin false m e) (fin true n d) = refl
+lt-neg (fin false m e) (fin false n d) = ap (ltb 0) (add-comm (m * up e * down d) (n * up d * down e))
+
+both : (a b : Bool) → (a && b) ≡ true → (a ≡ true) × (b ≡ true)
+both true true h = (refl, refl)
+both true false h = (refl, h)
+both false b h = (h, cc)
+
+by-sign : (x t : Float) (s : Bool) → negative x ≡ s → lt x t ≡ true → lt (neg t) x ≡ true → lt (abs x) t ≡ true
+by-sign x t false e h g = rw (abs-positive x e) h
+by-sign x t true e h g = rw (abs-negative x e) (lt-neg x t ∙ g)
+
+pub magnitude-below : (x t : Float) → (lt x t && lt (neg t) x) ≡ true → lt (abs x) t ≡ true
+magnitude-below x t h = let p = both (lt x t) (lt (neg t) x) h in by-sign x t (negative x) refl (p .0) (p .1)
 
 -- ---- the front part, that is the matrix: what is read there, and what a step makes of it
 

@@ -3,7 +3,9 @@
 
 ghost use mathlib.Core.Path.{_≡_};
 ghost use Prim.Native.Nat.{_+_, _*_, _-_, _≤_, _<_};
+ghost use mathlib.Core.Bool.{_&&_};
 ghost use lib.ListN.{length};
+ghost use lib.Ieee.{lt, neg};
 ghost use Rattle.solver.specs.Memory.{part};
 ghost use Rattle.solver.specs.Dense.{systemAt, PivotOf, Became, Reached, Dense};
 ghost use Rattle.solver.specs.Lm as spec;
@@ -19,6 +21,13 @@ struct Pivot {
     row: usize,
 }
 
+// Whether the magnitude of x is below t, without a branch on its sign.
+fn below(x: f64, t: f64) -> bool
+    ensures { λ r. ⌜ r ≡ (lt x t && lt (neg t) x) ⌝ }
+{
+    x < t && -t < x
+}
+
 // The largest magnitude among the first m.
 fn largest(s: &[f64], m: usize) -> f64
     requires { ⌜ m ≤ length (now s) ⌝ }
@@ -26,7 +35,11 @@ fn largest(s: &[f64], m: usize) -> f64
 {
     let mut t = 0.0;
     for i in 0..m {
-        t = numbers::max(t, numbers::abs(s[i]));
+        let x = s[i];
+        if below(x, t) {
+            continue;
+        }
+        t = numbers::max(t, numbers::abs(x));
     }
     t
 }
@@ -40,7 +53,11 @@ fn find_pivot(s: &[f64], n: usize, col: usize) -> Pivot
     let mut best = 0.0;
     let mut row = col;
     for r in col..n {
-        let v = numbers::abs(s[r * n + col]);
+        let x = s[r * n + col];
+        if below(x, best) {
+            continue;
+        }
+        let v = numbers::abs(x);
         if v > best {
             best = v;
             row = r;

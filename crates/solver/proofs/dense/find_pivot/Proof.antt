@@ -1,17 +1,15 @@
--- `find_pivot` finds the pivot of `pivotTo`. The loop's invariant: best and row are those of the rows passed. Assumes nothing.
-use mathlib.Core.Path.{_≡_, _∙_}
+-- `find_pivot` finds the pivot of `pivotTo`. The loop's invariant: best and row are those of the rows passed; a magnitude below best leaves them. Assumes nothing.
+use mathlib.Core.Path.{_≡_, sym, _∙_}
 use mathlib.Core.Logic.{⊎-elim}
 use Prim.Native.Nat.{suc, _+_, _-_, _*_, _≤_}
 use native.Mathlib.Omega.{arith}
 use borrow.Author.Needs.{needs}
-use Rattle.solver.specs.Lm.{pivotTo}
-use Rattle.solver.proofs.DenseLaws.{row-fits, pivot-taken, pivot-left}
 use Rattle.numbers.specs.Double.{abs}
 use lib.ListN.{getD}
 use lib.Ieee.{nan}
-use Rattle.solver.proofs.DenseLaws.{row-fits, pivot-taken, pivot-left}
-use Rattle.solver.proofs.DenseLaws.{row-fits}
-use Rattle.solver.proofs.DenseLaws.{row-fits}
+use Rattle.numbers.specs.DoubleLaws.{lt-asym}
+use Rattle.solver.specs.Lm.{pivotTo}
+use Rattle.solver.proofs.DenseLaws.{row-fits, magnitude-below, pivot-taken, pivot-left}
 use Rattle.solver.proofs.dense.find_pivot.Statement.{statement}
 use Rattle.solver.proofs.dense.find_pivot.Tie as tie
 
@@ -27,20 +25,20 @@ loop-holds c =
     let e : c .before .args .col - c .before .args .col ≡ 0 = omega arith in
     (omega arith, omega arith, rw e, rw e)
 
-mul-abs : tie.Need-mul-abs Inv-loop μ-loop
-mul-abs c = omega (arith, row-fits (c .before .loop .r) (c .before .before .before .args .n) (omega arith))
+mul-x : tie.Need-mul-x Inv-loop μ-loop
+mul-x c = omega (arith, row-fits (c .before .loop .r) (c .before .before .before .args .n) (omega arith))
 
-add-abs : tie.Need-add-abs Inv-loop μ-loop
-add-abs c = omega (arith, row-fits (c .before .loop .r) (c .before .before .before .args .n) (omega arith))
+add-x : tie.Need-add-x Inv-loop μ-loop
+add-x c = omega (arith, row-fits (c .before .loop .r) (c .before .before .before .args .n) (omega arith))
 
-mul-abs-2 : tie.Need-mul-abs-2 Inv-loop μ-loop
-mul-abs-2 c = omega (arith, row-fits (c .before .loop .r) (c .before .before .before .args .n) (omega arith))
+mul-x-2 : tie.Need-mul-x-2 Inv-loop μ-loop
+mul-x-2 c = omega (arith, row-fits (c .before .loop .r) (c .before .before .before .args .n) (omega arith))
 
-shared-slice-read-abs : tie.Need-shared-slice-read-abs Inv-loop μ-loop
-shared-slice-read-abs c = omega (arith, row-fits (c .before .before .loop .r) (c .before .before .before .before .args .n) (omega arith))
+shared-slice-read-x : tie.Need-shared-slice-read-x Inv-loop μ-loop
+shared-slice-read-x c = omega (arith, row-fits (c .before .before .loop .r) (c .before .before .before .before .args .n) (omega arith))
 
-abs-requires : tie.Need-abs-requires Inv-loop μ-loop
-abs-requires c κs = search needs
+below-requires : tie.Need-below-requires Inv-loop μ-loop
+below-requires c κs = search needs
 
 add-r : tie.Need-add-r Inv-loop μ-loop
 add-r c = omega arith
@@ -52,18 +50,40 @@ loop-again : tie.Need-loop-again Inv-loop μ-loop
 loop-again c =
     let at = c .before .before .before .before in
     let a = at .before .before .args in
-    let e : at .loop .r + 1 - a .col ≡ suc (at .loop .r - a .col) = omega arith in
-    let g : a .col + (at .loop .r - a .col) ≡ at .loop .r = omega arith in
+    let k = at .loop .r - a .col in
+    let e : at .loop .r + 1 - a .col ≡ suc k = omega arith in
+    let g : a .col + k ≡ at .loop .r = omega arith in
+    let x = getD (a .s .now) (at .loop .r * a .n + a .col) nan in
+    let l = lt-asym (at .loop .best) (abs x) (magnitude-below x (at .loop .best) (sym (c .before .below .ensures) ∙ c .if1 .taken)) in
+    let p = pivot-left (a .s .now) (a .n) (a .col) k (at .loop .best) (abs x) (at .loop .inv .2) (rw g) l in
+    (omega arith, omega arith, rw (e, p) (at .loop .inv .2), rw (e, p) (at .loop .inv .3))
+
+abs-requires : tie.Need-abs-requires Inv-loop μ-loop
+abs-requires c κs = search needs
+
+add-r-2 : tie.Need-add-r-2 Inv-loop μ-loop
+add-r-2 c = omega arith
+
+loop-less-2 : tie.Need-loop-less-2 Inv-loop μ-loop
+loop-less-2 c = omega arith
+
+loop-again-2 : tie.Need-loop-again-2 Inv-loop μ-loop
+loop-again-2 c =
+    let at = c .before .before .before .before .before .before in
+    let a = at .before .before .args in
+    let k = at .loop .r - a .col in
+    let e : at .loop .r + 1 - a .col ≡ suc k = omega arith in
+    let g : a .col + k ≡ at .loop .r = omega arith in
     let v = c .before .abs .result in
-    let is : v ≡ abs (getD (a .s .now) ((a .col + (at .loop .r - a .col)) * a .n + a .col) nan) = rw g (c .before .abs .ensures) in
+    let is : v ≡ abs (getD (a .s .now) ((a .col + k) * a .n + a .col) nan) = rw g (c .before .abs .ensures) in
     ⊎-elim
     (λ w.
-    let p = pivot-taken (a .s .now) (a .n) (a .col) (at .loop .r - a .col) (at .loop .best) v (at .loop .inv .2) is (w .0 .taken) in
+    let p = pivot-taken (a .s .now) (a .n) (a .col) k (at .loop .best) v (at .loop .inv .2) is (w .0 .taken) in
     (omega arith, omega arith, rw (e, p) (w .1), rw (e, p, g) (w .2)))
     (λ w.
-    let p = pivot-left (a .s .now) (a .n) (a .col) (at .loop .r - a .col) (at .loop .best) v (at .loop .inv .2) is (w .0 .left) in
+    let p = pivot-left (a .s .now) (a .n) (a .col) k (at .loop .best) v (at .loop .inv .2) is (w .0 .left) in
     (omega arith, omega arith, rw (e, p) (w .1 ∙ at .loop .inv .2), rw (e, p) (w .2 ∙ at .loop .inv .3)))
-    (c .if1 .came)
+    (c .if2 .came)
 
 returns : tie.Need-returns Inv-loop μ-loop
 returns c =
@@ -78,12 +98,16 @@ find-pivot-spec =
     Inv-loop
     μ-loop
     loop-holds
-    mul-abs
-    add-abs
-    mul-abs-2
-    shared-slice-read-abs
-    abs-requires
+    mul-x
+    add-x
+    mul-x-2
+    shared-slice-read-x
+    below-requires
     add-r
     loop-less
     loop-again
+    abs-requires
+    add-r-2
+    loop-less-2
+    loop-again-2
     returns)
