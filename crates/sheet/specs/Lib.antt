@@ -1,2 +1,3 @@
 pub mod Format
 pub mod Refusals
+pub mod Fields

@@ -1,1 +1,3 @@
 // The sheet: its reader, its refusals and the calls.
+
+pub mod refusals;
