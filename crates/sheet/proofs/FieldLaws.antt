@@ -18,6 +18,7 @@ use Rattle.vectors.specs.Vec.{Vec}
 use Rattle.solver.specs.Record.{byteAt, u16At, u64At, doubleAt, vecAt, usesJoint, usesFlag, usesPlane, GROUND, bodyNumberAt, primAt, jointKindAt, bodyAt, endAt, lawBy, relAt}
 use Rattle.sheet.specs.Format.{bodiesOf, relationsOf, bodyStart, relStart}
 use Rattle.sheet.specs.Refusals.{orElse, byteUpTo, within, withinV, THOUSAND, NEAR-ONE, bodyShape, bodyLimits, endShape, endLimits, planeShape, relShape, relNames, relLimits, bodyFault, relFault, headerFault, bodiesFault, relsFault, sheetFault}
+use Rattle.sheet.proofs.RefusalLaws.{none-of}
 use Rattle.sheet.specs.Fields.{flagByte, primByte, jointByte, lawByte, bodyWord, DoubleBack, VecBack, BodyBack, PrimBack, EndBack, LawBack, RelBack}
 
 -- every element is a byte
@@ -194,10 +195,6 @@ unfolding relFault
 rel-back m s r b h = let p = three (relShape s r) (relNames m s r) (relLimits s r) h in rel-of s r b (p .0) (p .1)
 
 -- ---- the sheet
-
-none-of : (a b : ℕ) → orElse a b ≡ 0 → (a ≡ 0) × (b ≡ 0)
-none-of zero b h = (refl, h)
-none-of (suc a) b h = absurd (omega arith)
 
 each-body : (s : List ℕ) (m i : ℕ) → bodiesFault s m ≡ 0 → i < m → bodyFault s (bodyStart i) ≡ 0
 unfolding bodiesFault

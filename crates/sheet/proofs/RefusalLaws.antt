@@ -32,6 +32,10 @@ pub or-else-first : (a b : ℕ) → (a ≡ 0 → ⊥) → a ≡ orElse a b
 or-else-first zero b h = absurd (h refl)
 or-else-first (suc a) b h = refl
 
+pub none-of : (a b : ℕ) → orElse a b ≡ 0 → (a ≡ 0) × (b ≡ 0)
+none-of zero b h = (refl, h)
+none-of (suc a) b h = absurd (omega arith)
+
 -- ---- the header
 
 and-right : (a b : Bool) → a && b ≡ true → b ≡ true
