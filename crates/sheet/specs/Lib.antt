@@ -1,2 +1,4 @@
 pub mod Format
 pub mod Refusals
+pub mod Fields
+pub mod Calls

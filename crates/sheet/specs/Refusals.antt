@@ -34,7 +34,7 @@ headerCounts s = leb (bodiesOf s) 64 && leb (relationsOf s) 128
 unfoldable pub headerOffsets : List ℕ → Bool
 headerOffsets s =
     eqb (u32At s 8) 24
-    && (eqb (u32At s 12) (relStart (bodiesOf s) 0) && (eqb (u32At s 16) (relStart (bodiesOf s) (relationsOf s)) && eqb (length s) (relStart (bodiesOf s) (relationsOf s))))
+    && (eqb (u32At s 12) (bodyStart (bodiesOf s)) && (eqb (u32At s 16) (relStart (bodiesOf s) (relationsOf s)) && eqb (length s) (relStart (bodiesOf s) (relationsOf s))))
 
 unfoldable pub headerFault : List ℕ → ℕ
 headerFault s =
@@ -42,12 +42,12 @@ headerFault s =
 
 -- ---- 5: bytes within their values, unused fields 0
 
--- a byte that is 0 or up to `most` where it is used
-abbrev pub byteUpTo : Bool → ℕ → ℕ → Bool
+-- a byte that is up to `most` where it is used, and 0 else
+unfoldable pub byteUpTo : Bool → ℕ → ℕ → Bool
 byteUpTo used most b = cond used (leb b most) (eqb b 0)
 
 -- n bytes from o on, 0 unless they are used
-abbrev pub usedOrZero : Bool → List ℕ → ℕ → ℕ → Bool
+unfoldable pub usedOrZero : Bool → List ℕ → ℕ → ℕ → Bool
 usedOrZero used s o n = used || zeroBytes s o n
 
 unfoldable pub bodyShape : List ℕ → ℕ → Bool
@@ -60,6 +60,10 @@ endShape law s e =
     && (zeroBytes s (e + 4) 4
     && (usedOrZero (usesDirection (byteAt s e)) s (e + 32) 24 && (usedOrZero (usesCircleRadius (byteAt s e)) s (e + 56) 8 && usedOrZero (usesEndRadius law) s (e + 64) 8))))
 
+-- the third end, all 0 unless it is used
+unfoldable pub planeShape : ℕ → List ℕ → ℕ → Bool
+planeShape law s e = cond (usesPlane law) (endShape law s e) (zeroBytes s e 72)
+
 unfoldable pub relShape : List ℕ → ℕ → Bool
 relShape s r =
     let law = byteAt s r in
@@ -70,7 +74,7 @@ relShape s r =
     && (usedOrZero (usesOffset law) s (r + 8) 8
     && (usedOrZero (usesAngle law) s (r + 16) 8
     && (usedOrZero (usesReference law) s (r + 24) 24
-    && (endShape law s (r + 48) && (endShape law s (r + 120) && cond (usesPlane law) (endShape law s (r + 192)) (zeroBytes s (r + 192) 72)))))))))
+    && (endShape law s (r + 48) && (endShape law s (r + 120) && planeShape law s (r + 192)))))))))
 
 -- ---- 6: every end that is used names a body or the ground
 

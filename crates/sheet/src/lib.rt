@@ -1,1 +1,4 @@
 // The sheet: its reader, its refusals and the calls.
+
+pub mod calls;
+pub mod refusals;

@@ -1,0 +1,17 @@
+use Rattle.sheet.proofs.RefusalLaws.{or-else-first}
+use borrow.Author.Needs.{needs}
+use Rattle.sheet.proofs.refusals.or_else.Statement.{statement}
+use Rattle.sheet.proofs.refusals.or_else.Tie as tie
+use Rattle.sheet.proofs.refusals.or_else.Reads as reads
+use Rattle.sheet.proofs.refusals.or_else.Lts as lts
+
+-- src/refusals.rt:328:1
+returns : tie.Need-returns
+returns c = search needs
+
+-- src/refusals.rt:328:1
+returns-2 : tie.Need-returns-2
+returns-2 c = or-else-first _ _ (c .if1 .left)
+
+pub or-else-spec : {M : Type 1} → statement M
+or-else-spec = tie.close (tie.spec returns returns-2)
