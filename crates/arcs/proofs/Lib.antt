@@ -1,3 +1,4 @@
 pub mod NanQuotient
 pub mod RoundSelf
 pub mod Remainder
+pub mod Tests

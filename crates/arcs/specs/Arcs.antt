@@ -57,14 +57,19 @@ turned (suc (suc zero)) s c = both (neg s) (neg c)
 turned (suc (suc (suc zero))) s c = both (neg c) s
 turned (suc (suc (suc (suc q)))) s c = both s c
 
+-- b
+unfoldable pub fromTurn : Float → Float
+unfolding quarters
+fromTurn a = sub binary64 a (mul binary64 (ofInt binary64 (pos (quarters a))) halfPi)
+
 -- the pair of a finite t ≥ 0
 unfoldable pub sineCosineOf : Float → SineCosine
+unfolding fromTurn
 sineCosineOf t =
     let a = rem binary64 t tau in
-    let q = quarters a in
-    let b = sub binary64 a (mul binary64 (ofInt binary64 (pos q)) halfPi) in
+    let b = fromTurn a in
     let z = mul binary64 b b in
-    turned q (mul binary64 b (horner doubles sineCoefs z)) (horner doubles cosineCoefs z)
+    turned (quarters a) (mul binary64 b (horner doubles sineCoefs z)) (horner doubles cosineCoefs z)
 
 unfoldable pub sineCosine : Float → SineCosine
 sineCosine t = cond (isFinite t && not (lt t zero64)) (sineCosineOf t) (both nan nan)

@@ -1,15 +1,16 @@
--- How far each polynomial, worked on doubles, lies from the same polynomial worked exactly, on fractions: same coefficients, same argument. At most 2 ^ -52 for the sine's and the
--- cosine's at an argument of at most 5/8, which is above (π/4)², and for the arctangent's at one of at most 3/16, which is above (√2 - 1)². The law for any length is `horner-const`
--- of numbers; what the kernel computes here is its bound for the three lists. Assumes nothing.
-use Prim.Native.Nat.{ℕ, _*_, _^_}
-use mathlib.Core.Bool.{Bool, false, _&&_}
+-- How far each polynomial, worked on doubles, lies from the same polynomial worked exactly, on fractions: same coefficients, same argument. At most 2 ^ -52, at every argument that
+-- sine, cosine and arctangent put into it (Range.antt). The law for any length is `horner-const` of numbers; what the kernel computes here is its bound for the three lists. Assumes nothing.
+use Prim.Native.Nat.{ℕ, _*_, _^_, _≤_}
+use mathlib.Core.Path.{_≡_, refl}
+use mathlib.Core.Bool.{Bool, true, false, _&&_}
 use mathlib.Core.List.{List, map}
 use lib.Dec.{T, leb, leb→le}
 use lib.IntN.{ℤ, negsuc}
-use lib.Ieee.{Float, fin, le, up, down, ofBits}
-use lib.Ieee.Fits.{and-l, and-r}
+use lib.Ieee.{Float, nan, inf, fin, binary64, rem, mul, lt, le, up, down, ofBits}
+use lib.Ieee.Fits.{and-l, and-r, down-pos}
+use lib.Ieee.Order.{le-of-values}
 use Rattle.numbers.specs.Frac.{fracOf}
-use Rattle.numbers.specs.Double.{abs}
+use Rattle.numbers.specs.Double.{abs, isFinite, negative}
 use Rattle.numbers.specs.Ops.{doubles, fractions}
 use Rattle.numbers.specs.Horner.{horner}
 use Rattle.numbers.specs.HornerNear.{horner-const}
@@ -17,6 +18,9 @@ use Rattle.numbers.specs.Near.{S, exactly, addBound, mulBound}
 use Rattle.numbers.specs.Bound.{bounds, constBound, small-of-le}
 use Rattle.numbers.specs.Differs.{Differs-by-at-most}
 use Rattle.numbers.specs.DiffersLaws.{near-differs}
+use Rattle.arcs.specs.Arcs.{tau, rootTwoLess, fromTurn, ratio}
+use Rattle.arcs.specs.Magnitudes.{AtMostOf}
+use Rattle.arcs.specs.Range.{folded, turn-square, ratio-small}
 use Rattle.arcs.specs.Coefs.{sineCoefs, cosineCoefs, arctangentCoefs}
 
 -- the polynomial on doubles lies within 2 ^ -52 of the polynomial on fractions
@@ -28,22 +32,41 @@ unfoldable pub within52 : List Float → ℕ → Bool
 unfolding horner S addBound mulBound constBound
 within52 cs m = let b = horner bounds (map constBound cs) (exactly m) in b .ok && leb (b .off * 2 ^ 52) S
 
-figure : (cs : List Float) (n : ℕ) (d : ℤ) (m : ℕ) → T (leb (n * up d * S) (m * down d)) → T (within52 cs m) → (z : Float) → T (le (abs z) (fin false n d)) → Within-52 cs z
+at-most-le : (n : ℕ) (d : ℤ) (z : Float) → AtMostOf (n * up d) (down d) z → T (le (abs z) (fin false n d))
+unfolding abs
+at-most-le n d nan h = absurd h
+at-most-le n d (inf s) h = absurd h
+at-most-le n d (fin s m e) h = le-of-values (fin false m e) (fin false n d) (m * up e) (down e) (n * up d) (down d) (down-pos e) (down-pos d) (refl, refl) (refl, refl) h
+
+pub figure : (cs : List Float) (n : ℕ) (d : ℤ) (m : ℕ) → T (leb (n * up d * S) (m * down d)) → T (within52 cs m) → (z : Float) → AtMostOf (n * up d) (down d) z → Within-52 cs z
 unfolding within52
 figure cs n d m l t z h =
     let b = horner bounds (map constBound cs) (exactly m) in
-    near-differs (2 ^ 52) _ _ b (leb→le _ _ (and-r (b .ok) _ t)) (horner-const cs z m (small-of-le z n d m h (leb→le _ _ l)) (and-l (b .ok) _ t))
+    near-differs (2 ^ 52) _ _ b (leb→le _ _ (and-r (b .ok) _ t)) (horner-const cs z m (small-of-le z n d m (at-most-le n d z h) (leb→le _ _ l)) (and-l (b .ok) _ t))
 
--- |z| at most 5/8
-pub sine-near : (z : Float) → T (le (abs z) (fin false 5 (negsuc 2))) → Within-52 sineCoefs z
-unfolding within52 S ofBits
-sine-near = figure sineCoefs 5 (negsuc 2) (5 * 2 ^ 77) tt tt
+-- ---- at the arguments in use
+-- z of a finite t without the sign bit
+abbrev pub squareOf : Float → Float
+squareOf t = let b = fromTurn (rem binary64 t tau) in mul binary64 b b
 
-pub cosine-near : (z : Float) → T (le (abs z) (fin false 5 (negsuc 2))) → Within-52 cosineCoefs z
+pub sine-near : (t : Float) → isFinite t ≡ true → negative t ≡ false → Within-52 sineCoefs (squareOf t)
 unfolding within52 S ofBits
-cosine-near = figure cosineCoefs 5 (negsuc 2) (5 * 2 ^ 77) tt tt
+sine-near t f s = figure sineCoefs 5 (negsuc 2) (5 * 2 ^ 77) tt tt (squareOf t) (turn-square t f s)
 
--- |z| at most 3/16
-pub arctangent-near : (z : Float) → T (le (abs z) (fin false 3 (negsuc 3))) → Within-52 arctangentCoefs z
+pub cosine-near : (t : Float) → isFinite t ≡ true → negative t ≡ false → Within-52 cosineCoefs (squareOf t)
 unfolding within52 S ofBits
-arctangent-near = figure arctangentCoefs 3 (negsuc 3) (3 * 2 ^ 76) tt tt
+cosine-near t f s = figure cosineCoefs 5 (negsuc 2) (5 * 2 ^ 77) tt tt (squareOf t) (turn-square t f s)
+
+-- v * v of the ratio of two magnitudes, the smaller over the larger
+pub record Series-near (u : Float) : Type 0 where
+  pub up-to : lt rootTwoLess u ≡ false → Within-52 arctangentCoefs (mul binary64 u u)
+  pub beyond : lt rootTwoLess u ≡ true → Within-52 arctangentCoefs (mul binary64 (folded u) (folded u))
+
+pub arctangent-near : (m n : ℕ) (e d : ℤ) → m * up e * down d ≤ n * up d * down e → Series-near (ratio (fin false m e) (fin false n d))
+unfolding within52 S ofBits
+arctangent-near m n e d l =
+    let h = ratio-small m n e d l in
+    record {
+      up-to = λ t. figure arctangentCoefs 3 (negsuc 3) (3 * 2 ^ 76) tt tt _ (h .up-to t);
+      beyond = λ t. figure arctangentCoefs 3 (negsuc 3) (3 * 2 ^ 76) tt tt _ (h .beyond t);
+    }

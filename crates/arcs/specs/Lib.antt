@@ -1,6 +1,8 @@
 pub mod Coefs
 pub mod Arcs
 pub mod Nearest
+pub mod Magnitudes
+pub mod Range
 pub mod Figures
 pub mod Root
 pub mod RootNearest

@@ -1,12 +1,13 @@
 // Sine, cosine and arctangent, operation by operation as specs/Arcs.antt defines them.
 
 use crate::horner::horner;
-use numbers::abs;
 use numbers::is_finite;
 use numbers::negative;
 ghost use mathlib.Core.Path.{_≡_};
 ghost use Prim.Native.Nat.{_≤_};
+ghost use mathlib.Core.Bool.{cond};
 ghost use lib.Ieee.{binary64, rem};
+ghost use Rattle.numbers.specs.Double.{abs};
 ghost use Rattle.arcs.specs.Arcs as spec;
 
 // 2π, π, π/2, π/4
@@ -87,29 +88,21 @@ fn passed(edge: f64, a: f64) -> u32
 // How many of E, 3E, 5E, 7E lie below a.
 fn quarters(a: f64) -> u32
     ensures { λ r. ⌜ r ≡ spec.quarters a ⌝ }
+    ensures { λ r. ⌜ r ≤ 4 ⌝ }
 {
     passed(E, a) + passed(3.0 * E, a) + passed(5.0 * E, a) + passed(7.0 * E, a)
 }
 
-// Sine and cosine after q turns of π/2.
+// Sine and cosine after q turns of π/2, looked up: a branch would be guessed wrong as often as not.
 fn turned(q: u32, s: f64, c: f64) -> SineCosine
+    requires { ⌜ q ≤ 4 ⌝ }
     ensures { λ r. ⌜ r ≡ spec.turned q s c ⌝ }
 {
-    match q {
-        0 => SineCosine { sine: s, cosine: c },
-        1 => SineCosine {
-            sine: c,
-            cosine: -s,
-        },
-        2 => SineCosine {
-            sine: -s,
-            cosine: -c,
-        },
-        3 => SineCosine {
-            sine: -c,
-            cosine: s,
-        },
-        _ => SineCosine { sine: s, cosine: c },
+    let by_turn = [s, c, -s, -c, s, c];
+    let i = q as usize;
+    SineCosine {
+        sine: by_turn[i],
+        cosine: by_turn[i + 1],
     }
 }
 
@@ -168,15 +161,27 @@ fn series(v: f64) -> f64
     v * horner(&ARCTANGENT, v * v)
 }
 
+// One of two values, looked up for the same reason.
+fn pick(test: bool, no: f64, yes: f64) -> f64
+    ensures { λ r. ⌜ r ≡ cond test yes no ⌝ }
+{
+    let either = [no, yes];
+    either[test as usize]
+}
+
+fn magnitude(x: f64) -> f64
+    ensures { λ r. ⌜ r ≡ abs x ⌝ }
+{
+    pick(negative(x), x, -x)
+}
+
 // The arctangent of a ratio from 0 to 1.
 fn of_ratio(u: f64) -> f64
     ensures { λ r. ⌜ r ≡ spec.ofRatio u ⌝ }
 {
-    if ROOT_TWO_LESS < u {
-        E + series((u - 1.0) / (u + 1.0))
-    } else {
-        series(u)
-    }
+    let above = ROOT_TWO_LESS < u;
+    let w = series(pick(above, u, (u - 1.0) / (u + 1.0)));
+    pick(above, w, E + w)
 }
 
 // The smaller magnitude over the larger; 0 where both are 0.
@@ -190,20 +195,18 @@ fn ratio(small: f64, large: f64) -> f64
 fn of_magnitudes(y: f64, x: f64) -> f64
     ensures { λ r. ⌜ r ≡ spec.ofMagnitudes y x ⌝ }
 {
-    if x < y {
-        H - of_ratio(ratio(x, y))
-    } else {
-        of_ratio(ratio(y, x))
-    }
+    let steep = x < y;
+    let w = of_ratio(ratio(pick(steep, y, x), pick(steep, x, y)));
+    pick(steep, w, H - w)
 }
 
 // The arctangent of two finite doubles, with the signs of both.
 fn arctangent_of(y: f64, x: f64) -> f64
     ensures { λ r. ⌜ r ≡ spec.arctangentOf y x ⌝ }
 {
-    let w = of_magnitudes(abs(y), abs(x));
-    let p = if negative(x) { P - w } else { w };
-    if negative(y) { -p } else { p }
+    let w = of_magnitudes(magnitude(y), magnitude(x));
+    let p = pick(negative(x), w, P - w);
+    pick(negative(y), p, -p)
 }
 
 #[no_mangle]

@@ -1,2 +1,4 @@
+pub mod Values
 pub mod MemoryLaws
 pub mod TableLaws
+pub mod RecordLaws

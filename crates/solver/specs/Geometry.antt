@@ -9,6 +9,8 @@ use Rattle.vectors.specs.Space.{Frame, world, fromNormal}
 use Rattle.vectors.specs.Math.{Mat, apply}
 use Rattle.solver.specs.declared.geometry.Prim.{Prim as Primitive}
 use Rattle.solver.specs.declared.geometry.Prim.the-variants.{Plane, Line, Point, Circle}
+use Rattle.solver.specs.declared.geometry.Direction.{Direction}
+use Rattle.solver.specs.declared.geometry.Direction.the-variants.{Along, Nothing}
 
 -- a point and a normal; a point and a direction; a point; a centre, an axis and a radius
 pub data Geo (C : Type 0) : Type 0 where
@@ -53,6 +55,11 @@ pointOf (plane p n) = p
 pointOf (line p d) = p
 pointOf (point p) = p
 pointOf (circle c n r) = c
+
+-- what `direction` answers: a direction or none
+abbrev pub direction : Direction → Option (Vec Float)
+direction (Along d) = some (vec d)
+direction Nothing = none
 
 -- the normal, direction or axis; a point has none
 unfoldable pub directionOf : Geo Float → Option (Vec Float)

@@ -7,4 +7,6 @@ pub mod Lm
 pub mod Solve
 pub mod Dof
 pub mod Memory
+pub mod RowBound
+pub mod RowBoundLaws
 pub mod Record

@@ -5,7 +5,7 @@ use mathlib.Core.Option.{Option, none, some}
 use lib.Ieee.{Float}
 use Rattle.vectors.specs.Vec.{Vec, vec}
 use Rattle.vectors.specs.Space.{Frame, frame}
-use Rattle.vectors.specs.Math.{ofFrame}
+use Rattle.vectors.specs.Math.{mat, ofFrame}
 use Rattle.solver.specs.Geometry.{Geo, prim, Pose}
 use Rattle.solver.specs.declared.model.JointKind.{JointKind}
 use Rattle.solver.specs.declared.model.Place.{Place}
@@ -15,6 +15,7 @@ use Rattle.solver.specs.declared.model.Law.{Law as LawEnum}
 use Rattle.solver.specs.declared.model.Law.the-variants.{Mate, Flush, Angle, Insert, Tangent, Symmetry, Joint}
 use Rattle.solver.specs.declared.model.Rel.{Rel as RelStruct}
 use Rattle.solver.specs.declared.model.Body.{Body as BodyStruct}
+use Rattle.solver.specs.declared.model.Pose.{Pose as PoseStruct}
 
 pub record Body : Type 0 where
   pub frame : Frame
@@ -66,6 +67,9 @@ relOf r = record { law = lawOf (r .law); a = endOf (r .a); b = endOf (r .b) }
 
 abbrev pub bodyOf : BodyStruct → Body
 bodyOf b = record { frame = frame (b .frame); fixed = b .fixed; center = vec (b .center); size = b .size }
+
+abbrev pub pose : PoseStruct → Pose Float
+pose q = record { r = mat (q .r); t = vec (q .t) }
 
 -- the pose of a frame: its axes as columns, its origin
 abbrev pub poseOfFrame : Frame → Pose Float

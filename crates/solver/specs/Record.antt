@@ -47,15 +47,12 @@ zeroBytes s o (suc n) = zeroBytes s o n && eqb (byteAt s (o + n)) 0
 
 -- ---- a body: 136 bytes
 
+abbrev pub frameAt : List ℕ → ℕ → Frame
+frameAt s o = record { origin = vecAt s o; x = vecAt s (o + 24); y = vecAt s (o + 48); z = vecAt s (o + 72) }
+
 -- fixed; origin, x, y, z of the frame; centre; size
 unfoldable pub bodyAt : List ℕ → ℕ → Body
-bodyAt s o =
-    record {
-      frame = record { origin = vecAt s (o + 8); x = vecAt s (o + 32); y = vecAt s (o + 56); z = vecAt s (o + 80) };
-      fixed = eqb (byteAt s o) 1;
-      center = vecAt s (o + 104);
-      size = doubleAt s (o + 128);
-    }
+bodyAt s o = record { frame = frameAt s (o + 8); fixed = eqb (byteAt s o) 1; center = vecAt s (o + 104); size = doubleAt s (o + 128) }
 
 -- ---- a relation: 264 bytes
 
@@ -123,23 +120,19 @@ jointKindAt (suc (suc (suc zero))) = Cylindrical
 jointKindAt (suc (suc (suc (suc zero)))) = Planar
 jointKindAt (suc (suc (suc (suc (suc n))))) = Ball
 
--- law, joint kind, flag; offset, angle, reference; the ends a, b and symmetry's plane
-unfoldable pub lawAt : ℕ → ℕ → Bool → Float → Float → Vec Float → End → Law
-lawAt zero kind flag off want reference p = mate off
-lawAt (suc zero) kind flag off want reference p = flush off
-lawAt (suc (suc zero)) kind flag off want reference p = angle want reference
-lawAt (suc (suc (suc zero))) kind flag off want reference p = insert off flag
-lawAt (suc (suc (suc (suc zero)))) kind flag off want reference p = tangent off flag
-lawAt (suc (suc (suc (suc (suc zero))))) kind flag off want reference p = symmetry p
-lawAt (suc (suc (suc (suc (suc (suc n)))))) kind flag off want reference p = joint (jointKindAt kind) flag off want
+-- the law by its number, from the relation's start r: flag, offset, angle, reference, symmetry's plane, joint kind
+unfoldable pub lawBy : ℕ → List ℕ → ℕ → Law
+lawBy zero s r = mate (doubleAt s (r + 8))
+lawBy (suc zero) s r = flush (doubleAt s (r + 8))
+lawBy (suc (suc zero)) s r = angle (doubleAt s (r + 16)) (vecAt s (r + 24))
+lawBy (suc (suc (suc zero))) s r = insert (doubleAt s (r + 8)) (eqb (byteAt s (r + 2)) 1)
+lawBy (suc (suc (suc (suc zero)))) s r = tangent (doubleAt s (r + 8)) (eqb (byteAt s (r + 2)) 1)
+lawBy (suc (suc (suc (suc (suc zero))))) s r = symmetry (endAt s (r + 192))
+lawBy (suc (suc (suc (suc (suc (suc n)))))) s r = joint (jointKindAt (byteAt s (r + 1))) (eqb (byteAt s (r + 2)) 1) (doubleAt s (r + 8)) (doubleAt s (r + 16))
 
+-- law, then the ends a and b
 unfoldable pub relAt : List ℕ → ℕ → Rel
-relAt s r =
-    record {
-      law = lawAt (byteAt s r) (byteAt s (r + 1)) (eqb (byteAt s (r + 2)) 1) (doubleAt s (r + 8)) (doubleAt s (r + 16)) (vecAt s (r + 24)) (endAt s (r + 192));
-      a = endAt s (r + 48);
-      b = endAt s (r + 120);
-    }
+relAt s r = record { law = lawBy (byteAt s r) s r; a = endAt s (r + 48); b = endAt s (r + 120) }
 
 -- ---- m bodies from the place `bodies` on, and k relations from the place `rels` on
 

@@ -3,19 +3,44 @@
 -- of operations, for doubles and for fractions. Definitions only.
 use Prim.Native.Nat.{ℕ}
 use mathlib.Core.Bool.{Bool, true, false, _||_, cond}
-use mathlib.Core.List.{List, [], _∷_, _++_}
+use mathlib.Core.List.{List, [], _∷_}
 use mathlib.Core.Option.{Option, none, some}
+use lib.ListN.{length, take, getD}
 use lib.Ieee.{Float, binary64, add, sub, mul, neg, le, ofBits}
 use Rattle.numbers.specs.Ops.{Ops, doubles}
-use Rattle.numbers.specs.Double.{one64, abs, remEuclid}
+use Rattle.numbers.specs.Double.{zero64, one64, abs, remEuclid}
 use Rattle.arcs.specs.Arcs.{arctangent}
-use Rattle.vectors.specs.Vec.{Vec, zeroV, addV, subV, scaleV, dot, cross, len}
+use Rattle.vectors.specs.Vec.{Vec, vec, zeroV, addV, subV, scaleV, dot, cross, len}
 use Rattle.vectors.specs.Space.{Frame}
 use Rattle.vectors.specs.Math.{Mat, apply, identity, PI}
 use Rattle.solver.specs.Geometry.{Geo, plane, line, point, circle, Pose, vecOf, poseOf, place, placed, directionOf, jointFrame}
 use Rattle.solver.specs.Model.{End, Law, mate, flush, angle, insert, tangent, symmetry, joint, Rel}
+use Rattle.solver.specs.declared.rows.Rows.{Rows}
+use Rattle.solver.specs.declared.rows.JointAt.{JointAt as JointStruct}
 use Rattle.solver.specs.declared.model.JointKind.{JointKind}
 use Rattle.solver.specs.declared.model.JointKind.the-variants.{Rigid, Revolute, Slider, Cylindrical, Planar, Ball}
+
+-- ---- rows as the code hands them on
+
+-- the first n of seven
+unfoldable pub rowsOf : Rows → List Float
+rowsOf r = take (r .n) (r .r0 ∷ r .r1 ∷ r .r2 ∷ r .r3 ∷ r .r4 ∷ r .r5 ∷ r .r6 ∷ [])
+
+-- at most seven rows, +0 after them
+unfoldable pub pack : List Float → Rows
+pack l =
+    record {
+      n = length l;
+      r0 = getD l 0 zero64;
+      r1 = getD l 1 zero64;
+      r2 = getD l 2 zero64;
+      r3 = getD l 3 zero64;
+      r4 = getD l 4 zero64;
+      r5 = getD l 5 zero64;
+      r6 = getD l 6 zero64;
+    }
+
+-- ---- what rows are made of
 
 -- 2.0
 abbrev pub two64 : Float
@@ -185,6 +210,9 @@ pub record JointAt : Type 0 where
   pub x : Vec Float
   pub z : Vec Float
 
+abbrev pub jointOf : JointStruct → JointAt
+jointOf j = record { o = vec (j .o); x = vec (j .x); z = vec (j .z) }
+
 unfoldable pub jointAt : End → Pose Float → JointAt
 jointAt e q =
     let f = jointFrame (e .prim) (e .mirrored) in
@@ -194,25 +222,26 @@ jointAt e q =
 abbrev pub facing : Bool → Float
 facing flip = cond flip one64 (ofBits binary64 0xBFF0_0000_0000_0000)
 
-abbrev pub axesRows : Bool → JointAt → JointAt → List Float
-axesRows flip a b = push3 (subV doubles (b .z) (scaleV doubles (a .z) (facing flip))) []
+abbrev pub axesApart : Bool → JointAt → JointAt → Vec Float
+axesApart flip a b = subV doubles (b .z) (scaleV doubles (a .z) (facing flip))
 
 -- ob - oa - za * offset
-abbrev pub originRows : Float → JointAt → JointAt → List Float
-originRows off a b = push3 (subV doubles (subV doubles (b .o) (a .o)) (scaleV doubles (a .z) off)) []
+abbrev pub originsApart : Float → JointAt → JointAt → Vec Float
+originsApart off a b = subV doubles (subV doubles (b .o) (a .o)) (scaleV doubles (a .z) off)
 
-abbrev pub slideRows : JointAt → JointAt → List Float
-slideRows a b = push3 (perp doubles (subV doubles (b .o) (a .o)) (a .z)) []
+abbrev pub offAxis : JointAt → JointAt → Vec Float
+offAxis a b = perp doubles (subV doubles (b .o) (a .o)) (a .z)
 
-abbrev pub turnRow : Float → JointAt → JointAt → List Float
-turnRow want a b = wrap (sub binary64 (turn (a .x) (b .x) (a .z)) want) ∷ []
+unfoldable pub turnedBy : Float → JointAt → JointAt → Float
+turnedBy want a b = wrap (sub binary64 (turn (a .x) (b .x) (a .z)) want)
 
 unfoldable pub jointRows : JointKind → Bool → Float → Float → JointAt → JointAt → List Float
-jointRows Rigid flip off want a b = axesRows flip a b ++ (originRows off a b ++ turnRow want a b)
-jointRows Revolute flip off want a b = axesRows flip a b ++ originRows off a b
-jointRows Slider flip off want a b = axesRows flip a b ++ (slideRows a b ++ turnRow want a b)
-jointRows Cylindrical flip off want a b = axesRows flip a b ++ slideRows a b
-jointRows Planar flip off want a b = axesRows flip a b ++ (gap doubles (b .o) (a .o) (a .z) off ∷ [])
+unfolding turnedBy
+jointRows Rigid flip off want a b = push3 (axesApart flip a b) (push3 (originsApart off a b) (turnedBy want a b ∷ []))
+jointRows Revolute flip off want a b = push3 (axesApart flip a b) (push3 (originsApart off a b) [])
+jointRows Slider flip off want a b = push3 (axesApart flip a b) (push3 (offAxis a b) (turnedBy want a b ∷ []))
+jointRows Cylindrical flip off want a b = push3 (axesApart flip a b) (push3 (offAxis a b) [])
+jointRows Planar flip off want a b = push3 (axesApart flip a b) (gap doubles (b .o) (a .o) (a .z) off ∷ [])
 jointRows Ball flip off want a b = push3 (subV doubles (b .o) (a .o)) []
 
 -- about the axis r; a point has no direction, and no row

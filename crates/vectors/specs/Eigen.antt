@@ -1,14 +1,12 @@
--- `sym_eigen` and `span_basis` of math.rs. Document 01, "The train of files", item 3. Definitions only.
+-- `sym_eigen` of math.rs. Document 01, "The train of files", item 3. Definitions only.
 use Prim.Native.Nat.{ℕ, zero, suc, _+_, _-_, _*_}
-use mathlib.Core.Bool.{Bool, true, false, _&&_, cond}
+use mathlib.Core.Bool.{Bool, true, false, cond}
 use mathlib.Core.List.{List, [], _∷_, _++_}
-use lib.ListN.{length, getD, set}
-use lib.Dec.{eqb, ltb}
+use lib.ListN.{getD, set}
+use lib.Dec.{eqb}
 use lib.Ieee.{Float, nan, binary64, add, sub, mul, div, neg, lt, le, eq, ofBits}
-use Rattle.numbers.specs.Ops.{doubles}
 use Rattle.numbers.specs.Double.{zero64, one64, abs, fmax, signum, before}
 use Rattle.arcs.specs.Root.{root}
-use Rattle.vectors.specs.Vec.{Vec, subV, scaleV, dot, len, normalized}
 use Rattle.vectors.specs.Sort.{sort}
 
 -- ---- Jacobi's rotations on an n by n matrix, row after row in one list
@@ -17,6 +15,9 @@ use Rattle.vectors.specs.Sort.{sort}
 pub record Turned : Type 0 where
   pub m : List Float
   pub v : List Float
+
+abbrev pub turned : List Float → List Float → Turned
+turned m v = record { m = m; v = v }
 
 abbrev square : Float → Float
 square x = mul binary64 x x
@@ -128,33 +129,4 @@ lower a b = before (a .value) (b .value)
 -- the eigenvalues and unit vectors of the symmetric n by n matrix a
 unfoldable pub symEigen : ℕ → List Float → List Eigen
 unfolding pairs sweeps unitTo
-symEigen n a = sort lower (pairs n (sweeps n 100 (record { m = a; v = unitTo n n })) n)
-
--- ---- the span of some vectors
-
-unfoldable pub longest : List (Vec Float) → Float → Float
-longest [] m = m
-longest (v ∷ vs) m = longest vs (fmax m (len v))
-
--- u with its part along each of bs taken off in turn
-unfoldable pub without : Vec Float → List (Vec Float) → Vec Float
-without u [] = u
-without u (b ∷ bs) = without (subV doubles u (scaleV doubles b (dot doubles u b))) bs
-
-abbrev pub longer : Vec Float → Vec Float → Bool
-longer a b = before (len b) (len a)
-
--- each vector whose rest is longer than `least` joins the basis, up to three
-unfoldable pub joined : Float → List (Vec Float) → List (Vec Float) → List (Vec Float)
-unfolding without
-joined least out [] = out
-joined least out (v ∷ vs) =
-    let u = without v out in
-    joined least (cond (lt least (len u) && ltb (length out) 3) (out ++ (normalized u ∷ [])) out) vs
-
--- an orthonormal basis of the span, longest first; `rel` is the part of the longest that still counts
-unfoldable pub spanBasis : List (Vec Float) → Float → List (Vec Float)
-unfolding longest joined
-spanBasis vs rel =
-    let most = longest vs zero64 in
-    cond (le most zero64) [] (joined (mul binary64 rel most) [] (sort longer vs))
+symEigen n a = sort lower (pairs n (sweeps n 100 (turned a (unitTo n n))) n)

@@ -1,6 +1,7 @@
 -- `arcs::arc::quarters` meets its contract, by that of `passed`. Assumes nothing.
-use borrow.Author.Needs.{needs}
+use native.Mathlib.Omega.{arith}
 use Rattle.arcs.specs.Arcs.{quarters}
+use borrow.Author.Needs.{needs}
 use Rattle.arcs.proofs.arc.quarters.Statement.{statement}
 use Rattle.arcs.proofs.arc.quarters.Tie as tie
 
@@ -28,7 +29,7 @@ add-result-3 c = search needs
 returns : tie.Need-returns
 unfolding quarters
 returns c =
-    rw (← c .passed4 .ensures .0, ← c .before .passed3 .ensures .0, ← c .before .before .passed2 .ensures .0, ← c .before .before .before .passed .ensures .0)
+    (rw (← c .passed4 .ensures .0, ← c .before .passed3 .ensures .0, ← c .before .before .passed2 .ensures .0, ← c .before .before .before .passed .ensures .0), omega arith)
 
 pub quarters-spec : {M : Type 1} → statement M
 quarters-spec =

@@ -1,6 +1,6 @@
 -- `arcs::arc::sine_cosine_of` meets its contract, by those of `reduced`, `quarters`, `horner` and `turned`. Assumes nothing.
-use borrow.Author.Needs.{needs}
 use Rattle.arcs.specs.Arcs.{sineCosineOf}
+use borrow.Author.Needs.{needs}
 use Rattle.arcs.proofs.arc.sine_cosine_of.Statement.{statement}
 use Rattle.arcs.proofs.arc.sine_cosine_of.Tie as tie
 
@@ -30,7 +30,7 @@ turned-requires c κs = search needs
 
 returns : tie.Need-returns
 unfolding sineCosineOf
-returns c = rw (c .turned .ensures, c .before .horner2 .ensures, c .before .before .before .horner .ensures, c .before .before .before .before .before .before .quarters .ensures, c .before .before .before .before .before .before .before .reduced .ensures)
+returns c = rw (c .turned .ensures, c .before .horner2 .ensures, c .before .before .before .horner .ensures, c .before .before .before .before .before .before .quarters .ensures .0, c .before .before .before .before .before .before .before .reduced .ensures)
 
 pub sine-cosine-of-spec : {M : Type 1} → statement M
 sine-cosine-of-spec =

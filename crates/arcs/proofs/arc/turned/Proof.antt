@@ -1,39 +1,42 @@
--- `arcs::arc::turned` meets its contract: in each arm q is known. Assumes nothing.
+-- `arcs::arc::turned` meets its contract: the list holds the sine at q and the cosine at q + 1. Assumes nothing.
 use mathlib.Core.Path.{_≡_, refl}
-use Prim.Native.Nat.{ℕ, zero, suc}
-use lib.Ieee.{Float}
+use mathlib.Core.List.{[], _∷_}
+use Prim.Native.Nat.{ℕ, zero, suc, _+_, _≤_}
+use native.Mathlib.Omega.{arith}
+use lib.ListN.{getD}
+use lib.Ieee.{Float, neg}
 use Rattle.arcs.specs.Arcs.{turned, both}
+use borrow.Author.Needs.{needs}
 use Rattle.arcs.proofs.arc.turned.Statement.{statement}
 use Rattle.arcs.proofs.arc.turned.Tie as tie
 
-turned-whole : (q : ℕ) (s c : Float) → (q ≡ 0 → ⊥) → (q ≡ 1 → ⊥) → (q ≡ 2 → ⊥) → (q ≡ 3 → ⊥) → turned q s c ≡ both s c
+-- the list by turns, against the table
+turn-at : (q : ℕ) (s c d : Float) → q ≤ 4 → (let l = s ∷ c ∷ neg s ∷ neg c ∷ s ∷ c ∷ [] in both (getD l q d) (getD l (q + 1) d)) ≡ turned q s c
 unfolding turned
-turned-whole zero s c n0 n1 n2 n3 = refl
-turned-whole (suc zero) s c n0 n1 n2 n3 = absurd (n1 refl)
-turned-whole (suc (suc zero)) s c n0 n1 n2 n3 = absurd (n2 refl)
-turned-whole (suc (suc (suc zero))) s c n0 n1 n2 n3 = absurd (n3 refl)
-turned-whole (suc (suc (suc (suc q)))) s c n0 n1 n2 n3 = refl
+turn-at zero s c d h = refl
+turn-at (suc zero) s c d h = refl
+turn-at (suc (suc zero)) s c d h = refl
+turn-at (suc (suc (suc zero))) s c d h = refl
+turn-at (suc (suc (suc (suc zero)))) s c d h = refl
+turn-at (suc (suc (suc (suc (suc q))))) s c d h = absurd (omega arith)
+
+mul-t8 : tie.Need-mul-t8
+mul-t8 c = search needs
+
+array-read-t6 : tie.Need-array-read-t6
+array-read-t6 c = search needs
+
+add-t11 : tie.Need-add-t11
+add-t11 c = search needs
+
+mul-t12 : tie.Need-mul-t12
+mul-t12 c = search needs
+
+array-read-t7 : tie.Need-array-read-t7
+array-read-t7 c = search needs
 
 returns : tie.Need-returns
-unfolding turned
-returns c = rw (c .match .keys1)
-
-returns-2 : tie.Need-returns-2
-unfolding turned
-returns-2 c = rw (c .match .keys2)
-
-returns-3 : tie.Need-returns-3
-unfolding turned
-returns-3 c = rw (c .match .keys3)
-
-returns-4 : tie.Need-returns-4
-unfolding turned
-returns-4 c = rw (c .match .keys4)
-
-returns-5 : tie.Need-returns-5
-returns-5 c =
-    let n = c .match .rest in
-    rw (turned-whole _ _ _ (n .0 .0 .0 .1) (n .0 .0 .1) (n .0 .1) (n .1))
+returns c = turn-at (c .args .q) (c .args .s) (c .args .c) _ (c .pre)
 
 pub turned-spec : {M : Type 1} → statement M
-turned-spec = tie.close (tie.spec returns returns-2 returns-3 returns-4 returns-5)
+turned-spec = tie.close (tie.spec mul-t8 array-read-t6 add-t11 mul-t12 array-read-t7 returns)

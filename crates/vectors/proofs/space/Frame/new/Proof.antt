@@ -1,7 +1,7 @@
 -- `vectors::space::Frame::new` meets its contract. Assumes nothing.
-use mathlib.Core.Path.{_≡_, _∙_, ap}
-use mathlib.Core.Bool.{Bool, not, _||_, false}
-use mathlib.Core.Option.{Option}
+use mathlib.Core.Path.{_≡_, _∙_}
+use mathlib.Core.Bool.{Bool, true, false, not}
+use mathlib.Core.Option.{Option, none}
 use lib.Ieee.{Float, le}
 use Rattle.vectors.specs.Tol.{LINEAR}
 use Rattle.vectors.specs.Vec.{Vec, isFiniteV, len, normalized}
@@ -9,15 +9,15 @@ use Rattle.vectors.specs.Space.{Frame, remaining, squared, newFrame}
 use Rattle.vectors.proofs.space.Frame.new.Statement.{statement}
 use Rattle.vectors.proofs.space.Frame.new.Tie as tie
 
--- where no test refuses
-accepted :
-    (o z h zn x : Vec Float) →
-    not (isFiniteV o) || (not (isFiniteV z) || (not (isFiniteV h) || le (len z) LINEAR)) ≡ false →
-    zn ≡ normalized z →
-    x ≡ remaining zn h →
-    squared o zn x ≡ newFrame o z h
-unfolding newFrame
-accepted o z h zn x tests ez ex = rw (tests, ex, ez)
+-- where all parts are finite
+module _ (o z h : Vec Float) (a b c : Bool) (l : Float) (ea : a ≡ isFiniteV o) (ta : not a ≡ false) (eb : b ≡ isFiniteV z) (tb : not b ≡ false) (ec : c ≡ isFiniteV h) (tc : not c ≡ false) (el : l ≡ len z) where
+  short : le l LINEAR ≡ true → _≡_ {A = Option Frame} none (newFrame o z h)
+  unfolding newFrame
+  short test = rw (← ea, ta, ← eb, tb, ← ec, tc, ← el, test)
+
+  long : (zn x : Vec Float) → le l LINEAR ≡ false → zn ≡ normalized z → x ≡ remaining zn h → squared o zn x ≡ newFrame o z h
+  unfolding newFrame
+  long zn x test ez ex = rw (← ea, ta, ← eb, tb, ← ec, tc, ← el, test, ex, ez)
 
 is-finite-requires : tie.Need-is-finite-requires
 is-finite-requires c κs = tt
@@ -49,21 +49,19 @@ len-requires : tie.Need-len-requires
 len-requires c κs = tt
 
 returns-4 : tie.Need-returns-4
-unfolding newFrame
 returns-4 c =
     let b3 = c .before .before in
     let b2 = b3 .before .before in
     let b1 = b2 .before .before in
-    rw (
-      ← (b1 .before .is-finite .ensures),
-      b1 .if1 .left,
-      ← (b2 .before .is-finite2 .ensures),
-      b2 .if2 .left,
-      ← (b3 .before .is-finite3 .ensures),
-      b3 .if3 .left,
-      ← (c .before .len .ensures),
-      c .if4 .taken,
-    )
+    short _ _ _ _ _ _ _
+    (b1 .before .is-finite .ensures)
+    (b1 .if1 .left)
+    (b2 .before .is-finite2 .ensures)
+    (b2 .if2 .left)
+    (b3 .before .is-finite3 .ensures)
+    (b3 .if3 .left)
+    (c .before .len .ensures)
+    (c .if4 .taken)
 
 normalized-requires : tie.Need-normalized-requires
 normalized-requires c κs = tt
@@ -81,17 +79,16 @@ returns-5 c =
     let b2 = b3 .before .before in
     let b1 = b2 .before .before in
     c .squared .ensures
-    ∙ accepted _ _ _ _ _
-    (rw (
-      ← (b1 .before .is-finite .ensures),
-      b1 .if1 .left,
-      ← (b2 .before .is-finite2 .ensures),
-      b2 .if2 .left,
-      ← (b3 .before .is-finite3 .ensures),
-      b3 .if3 .left,
-      ← (b4 .before .len .ensures),
-      b4 .if4 .left,
-    ))
+    ∙ long _ _ _ _ _ _ _
+    (b1 .before .is-finite .ensures)
+    (b1 .if1 .left)
+    (b2 .before .is-finite2 .ensures)
+    (b2 .if2 .left)
+    (b3 .before .is-finite3 .ensures)
+    (b3 .if3 .left)
+    (b4 .before .len .ensures)
+    _ _
+    (b4 .if4 .left)
     (c .before .before .normalized .ensures)
     (c .before .remaining .ensures)
 

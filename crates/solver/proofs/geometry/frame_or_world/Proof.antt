@@ -1,0 +1,20 @@
+-- `solver::geometry::frame_or_world` meets its contract. Assumes nothing.
+use borrow.Author.Needs.{needs}
+use Rattle.solver.proofs.geometry.frame_or_world.Statement.{statement}
+use Rattle.solver.proofs.geometry.frame_or_world.Tie as tie
+
+enum-known-f : tie.Need-enum-known-f
+enum-known-f c = search needs
+
+-- /work/h/rows/target/rlib/vectors.rlib/interface/lang/src/vec.rt:3:25
+enum-told : tie.Need-enum-told
+enum-told c = search needs
+
+returns : tie.Need-returns
+returns c = rw (c .before .f .given .1)
+
+returns-2 : tie.Need-returns-2
+returns-2 c = rw (c .enum-told .given .1)
+
+pub frame-or-world-spec : {M : Type 1} → statement M
+frame-or-world-spec = tie.close (tie.spec enum-known-f enum-told returns returns-2)

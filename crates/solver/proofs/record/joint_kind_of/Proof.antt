@@ -1,0 +1,39 @@
+use Rattle.solver.specs.Record.{jointKindAt}
+use native.Mathlib.Omega.{arith}
+use Rattle.solver.proofs.RecordLaws.{last-kind}
+use Rattle.solver.proofs.record.joint_kind_of.Statement.{statement}
+use Rattle.solver.proofs.record.joint_kind_of.Tie as tie
+use Rattle.solver.proofs.record.joint_kind_of.Reads as reads
+use Rattle.solver.proofs.record.joint_kind_of.Lts as lts
+
+-- src/record.rt:155:1
+returns : tie.Need-returns
+unfolding jointKindAt
+returns c = rw (c .match .keys1)
+
+-- src/record.rt:155:1
+returns-2 : tie.Need-returns-2
+unfolding jointKindAt
+returns-2 c = rw (c .match .keys2)
+
+-- src/record.rt:155:1
+returns-3 : tie.Need-returns-3
+unfolding jointKindAt
+returns-3 c = rw (c .match .keys3)
+
+-- src/record.rt:155:1
+returns-4 : tie.Need-returns-4
+unfolding jointKindAt
+returns-4 c = rw (c .match .keys4)
+
+-- src/record.rt:155:1
+returns-5 : tie.Need-returns-5
+unfolding jointKindAt
+returns-5 c = rw (c .match .keys5)
+
+-- src/record.rt:155:1
+returns-6 : tie.Need-returns-6
+returns-6 c = rw (last-kind (c .before .args .kind) (omega arith))
+
+pub joint-kind-of-spec : {M : Type 1} → statement M
+joint-kind-of-spec = tie.close (tie.spec returns returns-2 returns-3 returns-4 returns-5 returns-6)

@@ -1,0 +1,12 @@
+-- `solver::rows::Rows::four` meets its contract. Assumes nothing.
+use mathlib.Core.Path.{refl}
+use Rattle.solver.specs.Rows.{pack}
+use Rattle.solver.proofs.rows.Rows.four.Statement.{statement}
+use Rattle.solver.proofs.rows.Rows.four.Tie as tie
+
+returns : tie.Need-returns
+unfolding pack
+returns c = refl
+
+pub four-spec : {M : Type 1} → statement M
+four-spec = tie.close (tie.spec returns)

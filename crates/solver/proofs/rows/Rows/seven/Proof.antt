@@ -1,0 +1,12 @@
+-- `solver::rows::Rows::seven` meets its contract. Assumes nothing.
+use mathlib.Core.Path.{refl}
+use Rattle.solver.specs.Rows.{pack}
+use Rattle.solver.proofs.rows.Rows.seven.Statement.{statement}
+use Rattle.solver.proofs.rows.Rows.seven.Tie as tie
+
+returns : tie.Need-returns
+unfolding pack
+returns c = refl
+
+pub seven-spec : {M : Type 1} → statement M
+seven-spec = tie.close (tie.spec returns)

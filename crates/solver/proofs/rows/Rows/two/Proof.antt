@@ -1,0 +1,12 @@
+-- `solver::rows::Rows::two` meets its contract. Assumes nothing.
+use mathlib.Core.Path.{refl}
+use Rattle.solver.specs.Rows.{pack}
+use Rattle.solver.proofs.rows.Rows.two.Statement.{statement}
+use Rattle.solver.proofs.rows.Rows.two.Tie as tie
+
+returns : tie.Need-returns
+unfolding pack
+returns c = refl
+
+pub two-spec : {M : Type 1} → statement M
+two-spec = tie.close (tie.spec returns)

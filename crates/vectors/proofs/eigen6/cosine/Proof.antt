@@ -1,0 +1,15 @@
+-- `eigen6::cosine` meets its contract. Assumes nothing.
+use borrow.Author.Needs.{needs}
+use Rattle.vectors.specs.Eigen.{cosineOf}
+use Rattle.vectors.proofs.eigen6.cosine.Statement.{statement}
+use Rattle.vectors.proofs.eigen6.cosine.Tie as tie
+
+sqrt-requires : tie.Need-sqrt-requires
+sqrt-requires c κs = search needs
+
+returns : tie.Need-returns
+unfolding cosineOf
+returns c = rw (c .sqrt .ensures)
+
+pub cosine-spec : {M : Type 1} → statement M
+cosine-spec = tie.close (tie.spec sqrt-requires returns)
