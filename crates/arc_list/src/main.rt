@@ -1,5 +1,5 @@
-// Replays a list of sines, cosines and arctangents from standard input and counts the answers that differ. The list is made by an implementation outside
-// this repository's code of the same rule: `python3 tools/arc_list.py > crates/arc_list/stdin`.
+// Replays a list of sines, cosines and arctangents from standard input and counts the answers that differ. The list is made by a second implementation of the
+// rule, in another language: `python3 tools/arc_list.py > crates/arc_list/stdin`.
 //
 // A record is four numbers of 8 bytes, little endian: 0 and the bits of t, its sine and its cosine, or 1 and the bits of y, x and their arctangent.
 

@@ -28,8 +28,8 @@ AboveMidpoint x r y = (num r * den y + num y * den r) * (num r * den y + num y *
 -- doubles, and the rule for ties has no case to decide. A y below +0 is farther from √x than +0 is.
 pub record NearestRoot (x r : Float) : Type 0 where
   pub above : T (positive r)
-  pub up : (y : Float) → T (fits binary64 y) → T (fromZero y) → T (lt r y) → BelowMidpoint x r y
-  pub down : (y : Float) → T (fits binary64 y) → T (fromZero y) → T (lt y r) → AboveMidpoint x r y
+  pub upward : (y : Float) → T (fits binary64 y) → T (fromZero y) → T (lt r y) → BelowMidpoint x r y
+  pub downward : (y : Float) → T (fits binary64 y) → T (fromZero y) → T (lt y r) → AboveMidpoint x r y
 
 -- NaN gives NaN, a zero itself with its sign, a number below 0 or -infinity NaN, +infinity +infinity
 abbrev pub RootCase : Float → Float → Type 0

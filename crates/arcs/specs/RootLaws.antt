@@ -217,7 +217,7 @@ apart nx dx nr dr ns ds h k = omega arith
 not-below : (x r s : Float) → T (fits binary64 r) → T (fits binary64 s) → NearestRoot x r → NearestRoot x s → num r * den s < num s * den r → ⊥
 not-below x r s f g p q h =
     let l = cross→lt r s (p .above) (q .above) h in
-    apart (num x) (den x) (num r) (den r) (num s) (den s) (p .up s g (positive-fromZero s (q .above)) l) (q .down r f (positive-fromZero r (p .above)) l)
+    apart (num x) (den x) (num r) (den r) (num s) (den s) (p .upward s g (positive-fromZero s (q .above)) l) (q .downward r f (positive-fromZero r (p .above)) l)
 
 nearest-unique : (x r s : Float) → T (fits binary64 r) → T (fits binary64 s) → NearestRoot x r → NearestRoot x s → r ≡ s
 nearest-unique x r s f g p q = go (decLe (num r * den s) (num s * den r))

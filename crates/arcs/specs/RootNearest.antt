@@ -142,6 +142,21 @@ module _ (l nx dx nr dr ny dy m r y : ℕ) (L : 0 < l) (DX : 0 < dx) (DR : 0 < d
   above-midpoint : (r + y) * (r + y) < 4 * m → (nr * dy + ny * dr) * (nr * dy + ny * dr) * dx < 4 * nx * (dr * dy * (dr * dy))
   above-midpoint h = lt-of-mul-lt-mul-right (l * l) (rw (four, sum) (mul-lt-mul-of-pos-right h positive-den))
 
+-- what the whole numbers m, r and y say of the fractions
+record Sides (nx dx nr dr ny dy m r y : ℕ) : Type 0 where
+  less : nr * dy < ny * dr → r < y
+  more : ny * dr < nr * dy → y < r
+  below : 4 * m < (r + y) * (r + y) → 4 * nx * (dr * dy * (dr * dy)) < (nr * dy + ny * dr) * (nr * dy + ny * dr) * dx
+  above : (r + y) * (r + y) < 4 * m → (nr * dy + ny * dr) * (nr * dy + ny * dr) * dx < 4 * nx * (dr * dy * (dr * dy))
+
+sides : (l nx dx nr dr ny dy m r y : ℕ) → 0 < l → 0 < dx → 0 < dr → 0 < dy → nx * (l * l) ≡ m * dx → nr * l ≡ r * dr → ny * l ≡ y * dy → Sides nx dx nr dr ny dy m r y
+sides l nx dx nr dr ny dy m r y L DX DR DY ex er ey = record {
+  less = less l nx dx nr dr ny dy m r y L DX DR DY ex er ey;
+  more = more l nx dx nr dr ny dy m r y L DX DR DY ex er ey;
+  below = below-midpoint l nx dx nr dr ny dy m r y L DX DR DY ex er ey;
+  above = above-midpoint l nx dx nr dr ny dy m r y L DX DR DY ex er ey;
+}
+
 -- ---- doubles
 
 exponent-le : (i j : ℕ) → 2 ^ i ≤ 2 ^ j → i ≤ j
@@ -222,21 +237,18 @@ module _ (x r : Float) (m q k : ℕ) (er : HasValue r false (q * 2 ^ k) (2 ^ 107
   value : num r * 2 ^ 1074 ≡ q * 2 ^ k * den r
   value = value→cross r (q * 2 ^ k) (2 ^ 1074) er
 
+  at : (y : Float) (d : Digits y) → Sides (num x) (den x) (num r) (den r) (num y) (den y) (m * (2 ^ k * 2 ^ k)) (q * 2 ^ k) (d .n * 2 ^ d .j)
+  at y d = sides (2 ^ 1074) (num x) (den x) (num r) (den r) (num y) (den y) (m * (2 ^ k * 2 ^ k)) (q * 2 ^ k) (d .n * 2 ^ d .j) (pow-pos 1074) (den-pos x) (den-pos r) (den-pos y) ex value (d .exact)
+
   nearest-up : (y : Float) → T (fits binary64 y) → T (fromZero y) → T (lt r y) → BelowMidpoint x r y
   nearest-up y f z h =
       let d = digits y f in
-      let g = on-grid 52 k (d .n) (d .j) (d .short) in
-      let c = less (2 ^ 1074) (num x) (den x) (num r) (den r) (num y) (den y) (m * (2 ^ k * 2 ^ k)) (q * 2 ^ k) (d .n * 2 ^ d .j) (pow-pos 1074) (den-pos x) (den-pos r) (den-pos y) ex value (d .exact) (lt→cross r y (positive-fromZero r above-zero) z h) in
-      below-midpoint (2 ^ 1074) (num x) (den x) (num r) (den r) (num y) (den y) (m * (2 ^ k * 2 ^ k)) (q * 2 ^ k) (d .n * 2 ^ d .j) (pow-pos 1074) (den-pos x) (den-pos r) (den-pos y) ex value (d .exact)
-      (upward m q (2 ^ 52) (2 ^ k) (d .n * 2 ^ d .j) w big (pow-pos k) g c)
+      at y d .below (upward m q (2 ^ 52) (2 ^ k) (d .n * 2 ^ d .j) w big (pow-pos k) (on-grid 52 k (d .n) (d .j) (d .short)) (at y d .less (lt→cross r y (positive-fromZero r above-zero) z h)))
 
   nearest-down : (y : Float) → T (fits binary64 y) → T (fromZero y) → T (lt y r) → AboveMidpoint x r y
   nearest-down y f z h =
       let d = digits y f in
-      let g = on-grid 52 k (d .n) (d .j) (d .short) in
-      let c = more (2 ^ 1074) (num x) (den x) (num r) (den r) (num y) (den y) (m * (2 ^ k * 2 ^ k)) (q * 2 ^ k) (d .n * 2 ^ d .j) (pow-pos 1074) (den-pos x) (den-pos r) (den-pos y) ex value (d .exact) (lt→cross y r z (positive-fromZero r above-zero) h) in
-      above-midpoint (2 ^ 1074) (num x) (den x) (num r) (den r) (num y) (den y) (m * (2 ^ k * 2 ^ k)) (q * 2 ^ k) (d .n * 2 ^ d .j) (pow-pos 1074) (den-pos x) (den-pos r) (den-pos y) ex value (d .exact)
-      (downward m q (2 ^ 52) (2 ^ k) (d .n * 2 ^ d .j) w big (pow-pos k) g c)
+      at y d .above (downward m q (2 ^ 52) (2 ^ k) (d .n * 2 ^ d .j) w big (pow-pos k) (on-grid 52 k (d .n) (d .j) (d .short)) (at y d .more (lt→cross y r z (positive-fromZero r above-zero) h)))
 
   pub nearest : NearestRoot x r
-  nearest = record { above = above-zero; up = nearest-up; down = nearest-down }
+  nearest = record { above = above-zero; upward = nearest-up; downward = nearest-down }

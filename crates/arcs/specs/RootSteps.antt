@@ -21,3 +21,15 @@ pub record Even (n e m k : ℕ) : Type 0 where
   pub low : 2 ^ 52 ≤ m
   pub high : m < 2 ^ 54
   pub short : k ≤ 1533
+
+-- c * c is high * 2 ^ 52 + low
+pub record Squared (c high low : ℕ) : Type 0 where
+  pub same : c * c ≡ high * 2 ^ 52 + low
+  pub top : high < 2 ^ 54
+  pub bottom : low < 2 ^ 55
+
+-- r says whether a is below b
+pub record Flag (a b r : ℕ) : Type 0 where
+  pub bit : r ≤ 1
+  pub one : a < b → r ≡ 1
+  pub none : b ≤ a → r ≡ 0

@@ -1,10 +1,11 @@
-// The square root of a double, as IEEE 754 has it: in whole numbers, one binary digit at a time, and rounded once.
+// The square root of a double, as IEEE 754 has it, in whole numbers and rounded once: an estimate in doubles is tested exactly, and where the test fails, as it does
+// for most subnormals, the root is found one binary digit at a time.
 ghost use Prim.Native.Nat.{_+_, _*_, _/_, _%_, _^_, _≤_, _<_};
 ghost use lib.Dec.{T};
 ghost use lib.Ieee.Positive.{positive};
 ghost use Rattle.arcs.specs.Root.{CorrectRoot};
 ghost use Rattle.arcs.specs.RootNearest.{WholeRoot};
-ghost use Rattle.arcs.specs.RootSteps.{field, significand, exponent, Even};
+ghost use Rattle.arcs.specs.RootSteps.{field, significand, exponent, Even, Squared, Flag};
 
 // the weights of the exponent's field and of the sign in a double's bits: 2^52 and 2^63
 const FIELD: u64 = 0x10_0000_0000_0000;
@@ -69,13 +70,81 @@ fn whole_root(m: u64) -> u64
     if q < rem { q + 1 } else { q }
 }
 
+// A number near to the root of x in the place of its digits, by Newton's iteration for 1 / √x in doubles, from the bits b of x. How near it is decides only the speed.
+fn estimate(x: f64, b: u64) -> u64
+    ensures { λ r. ⌜ (2 ^ 52 ≤ r) × (r < 2 ^ 53) ⌝ }
+{
+    let half = 0.5 * x;
+    let y = f64::from_bits(0x5fe6_eb50_c7b5_37a9 - b % SIGN / 2);
+    let y = y * (1.5 - half * y * y);
+    let y = y * (1.5 - half * y * y);
+    let y = y * (1.5 - half * y * y);
+    let s = x * y;
+    let r = s + 0.5 * y * (x - s * s);
+    if r > 0.0 {
+        FIELD + f64::to_bits(r) % FIELD
+    } else {
+        FIELD
+    }
+}
+
+// A square: high * 2^52 + low
+struct Square {
+    high: u64,
+    low: u64,
+}
+
+// c * c by halves of c.
+fn squared(c: u64) -> Square
+    requires { ⌜ c < 2 ^ 53 ⌝ }
+    ensures { λ r. ⌜ Squared c (r .high) (r .low) ⌝ }
+{
+    let a = c / 0x800_0000;
+    let b = c % 0x800_0000;
+    let p = a * b;
+    Square {
+        high: a * a * 4 + p / 0x100_0000,
+        low: p % 0x100_0000 * 0x1000_0000 + b * b,
+    }
+}
+
+// 1 if a is below b, else 0
+fn less(a: u64, b: u64) -> u64
+    ensures { λ r. ⌜ Flag a b r ⌝ }
+{
+    (a < b) as u64
+}
+
+// The whole number nearest to the root of m * 2^52: c or its neighbour where the remainder m * 2^52 - c * c, which is v - w, shows that, and else digit by digit.
+fn nearest_root(m: u64, c: u64) -> u64
+    requires { ⌜ (2 ^ 52 ≤ m) × (m < 2 ^ 54) × (2 ^ 52 ≤ c) × (c < 2 ^ 53) ⌝ }
+    ensures { λ r. ⌜ WholeRoot (m * 2 ^ 52) r ⌝ }
+{
+    let s = squared(c);
+    let high = s.high;
+    let w = s.low + 4 * FIELD;
+    if high <= m + 4 {
+        let d = m + 4 - high;
+        if d < 32 {
+            let v = d * FIELD;
+            if v <= w + c * 3 + 2 {
+                if w + 2 < v + c * 3 {
+                    return c + less(w + c, v) + less(w, v + c) - 1;
+                }
+            }
+        }
+    }
+    whole_root(m)
+}
+
 // The root of a finite double above 0.
 fn positive_root(x: f64) -> f64
     requires { ⌜ T (positive x) ⌝ }
     ensures { λ r. ⌜ CorrectRoot x r ⌝ }
 {
-    let n = opened(f64::to_bits(x));
-    let q = whole_root(n.m);
+    let b = f64::to_bits(x);
+    let n = opened(b);
+    let q = nearest_root(n.m, estimate(x, b));
     f64::from_bits(n.k * FIELD + q)
 }
 

@@ -12,7 +12,8 @@ use Rattle.numbers.specs.Double.{zero64, one64, abs, fmax, before}
 use Rattle.arcs.specs.Root.{root}
 use Rattle.vectors.specs.Tol.{DOF-REL}
 use Rattle.vectors.specs.Vec.{Vec, addV, scaleV, dot, cross, len, normalized}
-use Rattle.vectors.specs.Eigen.{Eigen, symEigen, spanBasis}
+use Rattle.vectors.specs.Eigen.{Eigen, symEigen}
+use Rattle.vectors.specs.Span.{spanBasis}
 use Rattle.solver.specs.Geometry.{Pose}
 use Rattle.solver.specs.Model.{Body, Rel, poseOfFrame}
 use Rattle.solver.specs.Lm.{listOf, tableOf, sumFrom, jacobian}

@@ -13,38 +13,42 @@ use Rattle.arcs.proofs.root.positive_root.Tie as tie
 held : (c : tie.Start) → T (fits binary64 (c .args .x))
 held c = subst T (sym (c .good .0 .1)) tt
 
-float-to-bits-opened : tie.Need-float-to-bits-opened
-float-to-bits-opened c = positive-no-nan (c .args .x) (c .pre)
+float-to-bits-b : tie.Need-float-to-bits-b
+float-to-bits-b c = positive-no-nan (c .args .x) (c .pre)
 
 opened-requires : tie.Need-opened-requires
 opened-requires c κs = (significand-pos (c .args .x) (held c) (c .pre), field-finite (c .args .x) (held c) (c .pre))
 
-whole-root-requires : tie.Need-whole-root-requires
-whole-root-requires c κs = search needs
+estimate-requires : tie.Need-estimate-requires
+estimate-requires c κs = search needs
+
+nearest-root-requires : tie.Need-nearest-root-requires
+nearest-root-requires c κs = search needs
 
 mul-result : tie.Need-mul-result
 mul-result c = search needs
 
 module _ (c : tie.After-struct-known) where
-  found : Joined (c .before .before .opened .result .k) (c .before .whole-root .result) (c .before .before .opened .result .k * 2 ^ 52 + c .before .whole-root .result)
-  found = root-joined _ (held (c .before .before .before)) (c .before .before .before .pre) _ _ _ (c .before .before .opened .ensures) (c .before .whole-root .ensures)
+  found : Joined (c .before .before .before .opened .result .k) (c .before .nearest-root .result) (c .before .before .before .opened .result .k * 2 ^ 52 + c .before .nearest-root .result)
+  found = root-joined _ (held (c .before .before .before .before)) (c .before .before .before .before .pre) _ _ _ (c .before .before .before .opened .ensures) (c .before .nearest-root .ensures)
 
 add-result : tie.Need-add-result
 add-result c = omega (arith, found c .plus)
 
 float-from-bits-result : tie.Need-float-from-bits-result
-float-from-bits-result c = root-no-nan _ (held (c .before .before .before)) (c .before .before .before .pre) _ _ _ (c .before .before .opened .ensures) (c .before .whole-root .ensures)
+float-from-bits-result c = root-no-nan _ (held (c .before .before .before .before)) (c .before .before .before .before .pre) _ _ _ (c .before .before .before .opened .ensures) (c .before .nearest-root .ensures)
 
 returns : tie.Need-returns
-returns c = root-found _ (held (c .before .before .before)) (c .before .before .before .pre) _ _ _ (c .before .before .opened .ensures) (c .before .whole-root .ensures)
+returns c = root-found _ (held (c .before .before .before .before)) (c .before .before .before .before .pre) _ _ _ (c .before .before .before .opened .ensures) (c .before .nearest-root .ensures)
 
 pub positive-root-spec : {M : Type 1} → statement M
 positive-root-spec =
     tie.close
     (tie.spec
-    float-to-bits-opened
+    float-to-bits-b
     opened-requires
-    whole-root-requires
+    estimate-requires
+    nearest-root-requires
     mul-result
     add-result
     float-from-bits-result

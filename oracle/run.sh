@@ -1,0 +1,45 @@
+#!/usr/bin/env bash
+# Builds the oracle, checks it against document 01's examples and compares with it what of the port is at hand:
+# target/staticlib/libarcs.a and libsheet.a (rt staticlib arcs, rt staticlib sheet) and target/bin/report.
+# Takes under three minutes. Ends with 0 if nothing differs, or if tenon's sources are not at hand.
+set -u
+cd "$(dirname "$0")" || exit 2
+source_dir=${TENON_SRC:-$(realpath -m ../../shared/docs/src)}
+if [ ! -f "$source_dir/crates/assembly/src/solve.rs" ] || ! command -v rustc >/dev/null; then
+    echo "oracle: NOT RUN, no tenon sources in $source_dir or no rustc; nothing was compared with the Rust"
+    exit 0
+fi
+failed=0
+step() {
+    echo "== $*"
+    "$@" || { echo "oracle: FAILED: $*"; failed=1; }
+}
+same_lists() {
+    local list copy same=0 differ=0
+    build/oracle lists build/lists || return 1
+    for list in build/lists/*.bin; do
+        for copy in lists/"${list##*/}" ../crates/*/data/"${list##*/}"; do
+            [ -f "$copy" ] || continue
+            if cmp "$list" "$copy"; then same=$((same + 1)); else differ=$((differ + 1)); fi
+        done
+    done
+    echo "frozen lists made again: $same files the same, $differ differ"
+    [ $differ -eq 0 ] && [ $same -gt 0 ]
+}
+covered() { build/oracle cover 1 "$1" | grep -A20 "^reached"; return "${PIPESTATUS[0]}"; }
+
+./build.sh || exit 1
+step ./measure.sh
+step build/oracle examples
+step same_lists
+step covered 700
+step build/oracle arcs 2000000
+step build/oracle sheet 2 400
+if [ -x ../target/bin/report ]; then
+    step build/oracle run-report ../target/bin/report 3 300
+else
+    echo "report: no target/bin/report, nothing compared"
+fi
+step python3 exact_rows.py build/lists 1 2000
+[ $failed -eq 0 ] && echo "oracle: nothing differs"
+exit $failed

@@ -1,0 +1,96 @@
+//! The oracle: answers of the Rust, sheets to ask it about, and comparisons with the port.
+//! `oracle` alone prints the commands.
+
+mod answer;
+mod arguments;
+mod bench;
+mod compare;
+mod cover;
+mod examples;
+mod generate;
+mod lists;
+mod rng;
+mod sheet;
+
+/// The calls as tenon answers them.
+mod plain {
+    use tenon;
+    include!("calls.rs");
+}
+/// The calls as tenon answers them with document 01's `max`.
+mod with_max01 {
+    #![allow(dead_code)]
+    use tenon_max as tenon;
+    include!("calls.rs");
+}
+
+use std::io::Read;
+
+const USAGE: &str = "oracle answer FILE [DRAG]     all answers about a sheet, with all bits
+oracle report < FILE          what the program report prints
+oracle gen SEED N DIR         N valid sheets, written as DIR/NNNN.sheet, and what they cover
+oracle cover SEED N           all calls on N valid and N damaged sheets and the limits: counts, branches, max
+oracle examples               document 01's own examples, asked of the oracle
+oracle arcs N                 the linked root, sine, cosine and arctangent on about 4N arguments
+oracle bench                  time per call of the linked arcs and root beside Rust's own
+oracle sheet SEED N           the linked sheet library against the Rust on N valid and N damaged sheets
+oracle run-report PROGRAM SEED N    the program report against the Rust
+oracle lists DIR [SCALE]      the frozen lists (FORMATS.md); SCALE above 1 makes longer ones";
+
+fn main() {
+    let args: Vec<String> = std::env::args().skip(1).collect();
+    let args: Vec<&str> = args.iter().map(String::as_str).collect();
+    let number = |s: &str| s.parse::<usize>().unwrap_or_else(|_| panic!("{s} is no number"));
+    let good = match args[..] {
+        ["answer", file] => print_answers(file, sheet::GROUND),
+        ["answer", file, drag] => print_answers(file, number(drag) as u16),
+        ["report"] => {
+            let mut input = Vec::new();
+            std::io::stdin().read_to_end(&mut input).unwrap();
+            print!("{}", plain::report(&input));
+            true
+        }
+        ["gen", seed, n, dir] => write_sheets(number(seed) as u64, number(n), dir),
+        ["cover", seed, n] => compare::max_and_cover(number(seed) as u64, number(n)),
+        ["arcs", n] => compare::arcs(number(n)),
+        ["sheet", seed, n] => compare::sheet(number(seed) as u64, number(n)),
+        ["run-report", program, seed, n] => compare::report(program, number(seed) as u64, number(n)),
+        ["bench"] => bench::run(),
+        ["examples"] => examples::run(),
+        ["lists", dir] => lists::write(dir, 1),
+        ["lists", dir, scale] => lists::write(dir, number(scale)),
+        _ => {
+            println!("{USAGE}");
+            false
+        }
+    };
+    std::process::exit(if good { 0 } else { 1 });
+}
+
+fn print_answers(file: &str, drag: u16) -> bool {
+    let bytes = std::fs::read(file).unwrap();
+    let k = sheet::read(&bytes).map_or(1, |s| s.relations.len() as u16);
+    let lots = 10_000_000;
+    let mut calls = Vec::new();
+    for relation in 0..k {
+        calls.extend([answer::Call::Judge { relation }, answer::Call::Reading { relation }, answer::Call::Snap { relation, motion: 12 }]);
+    }
+    calls.push(answer::Call::Solve { drag, scratch: lots, poses: lots, frames: lots, errors: lots });
+    calls.push(answer::Call::Dof { scratch: lots, freedoms: lots });
+    for call in calls {
+        print!("{}", answer::text(call, &plain::answer(&bytes, call)));
+    }
+    true
+}
+
+fn write_sheets(seed: u64, n: usize, dir: &str) -> bool {
+    std::fs::create_dir_all(dir).unwrap();
+    let (mut rng, mut cover) = (rng::Rng(seed), cover::Cover::new());
+    for i in 0..n {
+        let sheet = generate::sheet(&mut rng, i, 6);
+        cover.sheet(&sheet);
+        std::fs::write(format!("{dir}/{i:04}.sheet"), sheet.bytes()).unwrap();
+    }
+    cover.print();
+    true
+}
