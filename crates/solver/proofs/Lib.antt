@@ -2,3 +2,5 @@ pub mod Values
 pub mod MemoryLaws
 pub mod TableLaws
 pub mod RecordLaws
+pub mod LmLaws
+pub mod DenseLaws

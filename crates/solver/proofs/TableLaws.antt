@@ -1,13 +1,13 @@
 -- Lists and matrices given by their entries, and sums of terms that are equal one by one. Assumes nothing.
 use mathlib.Core.Path.{_≡_, refl, sym, ap, _∙_}
 use mathlib.Core.List.{List, [], _∷_, _++_}
-use Prim.Native.Nat.{ℕ, zero, suc, _+_, _-_, _*_, _≤_, _<_}
+use Prim.Native.Nat.{ℕ, zero, suc, _+_, _-_, _*_, _/_, _%_, _≤_, _<_}
 use native.Mathlib.Omega.{arith}
 use mathlib.Core.Logic.{inl, inr}
-use native.Mathlib.Nat.{not-suc-le-zero, le-of-suc-le-suc, eq-or-lt-of-le, zero-mul, suc-mul, mul-le-mul-right}
+use native.Mathlib.Nat.{not-suc-le-zero, le-of-suc-le-suc, eq-or-lt-of-le, zero-mul, mul-zero, suc-mul, mul-le-mul-right, zero-lt-suc, div-add-mod', div-lt-iff-lt-mul, mod-lt}
 use lib.ListN.{length, getD, length-append, List·getD-append}
-use lib.Seq.{getD-append-seam, getD-append-add}
-use lib.Ieee.{Float, binary64, add}
+use lib.Seq.{getD-append-seam, getD-append-add, ext-getD}
+use lib.Ieee.{Float, nan, binary64, add}
 use Rattle.solver.specs.Lm.{listOf, tableOf, sumFrom}
 
 pub length-listOf : {A : Type 0} (f : ℕ → A) (n : ℕ) → length (listOf f n) ≡ n
@@ -52,3 +52,22 @@ getD-tableOf f cols (suc rows) i j d h l =
       | inr m ↦
           List·getD-append (tableOf f cols rows) (listOf (f rows) cols) d (i * cols + j) (rw (length-tableOf f cols rows) (in-rows i j cols rows m l)) ∙ getD-tableOf f cols rows i j d m l
     ]
+
+cols-pos : (cols x rows : ℕ) → x < rows * cols → 0 < cols
+cols-pos zero x rows u = absurd (not-suc-le-zero (rw (mul-zero rows) at u))
+cols-pos (suc cols) x rows u = zero-lt-suc cols
+
+-- a list of as many entries as the matrix has, equal entry by entry, is the matrix
+pub table-ext : (f : ℕ → ℕ → Float) (cols rows : ℕ) (l : List Float) → length l ≡ rows * cols → ((i j : ℕ) → i < rows → j < cols → getD l (i * cols + j) nan ≡ f i j)
+    → l ≡ tableOf f cols rows
+table-ext f cols rows l e h = ext-getD nan l (tableOf f cols rows) (e ∙ sym (length-tableOf f cols rows)) at
+  where
+    at : (x : ℕ) → x < length l → getD l x nan ≡ getD (tableOf f cols rows) x nan
+    at x m =
+        let u : x < rows * cols = rw (← e) m in
+        let q = div-add-mod' x cols in
+        let c : 0 < cols = cols-pos cols x rows u in
+        let i : x / cols < rows = div-lt-iff-lt-mul c .1 u in
+        let j : x % cols < cols = mod-lt x c in
+        ap (λ (w : ℕ). getD l w nan) (sym q) ∙ h (x / cols) (x % cols) i j ∙ sym (getD-tableOf f cols rows (x / cols) (x % cols) nan i j)
+        ∙ ap (λ (w : ℕ). getD (tableOf f cols rows) w nan) q

@@ -9,9 +9,11 @@ use Rattle.vectors.specs.Space.{Frame, frame}
 use Rattle.vectors.specs.Math.{Mat, mat}
 use Rattle.solver.specs.declared.model.Pose.{Pose as PoseStruct}
 use Rattle.solver.specs.declared.rows.JointAt.{JointAt as JointStruct}
+use Rattle.solver.specs.declared.snap.Motion.{Motion as MotionStruct}
 use Rattle.solver.specs.Geometry.{Pose}
 use Rattle.solver.specs.Model.{pose}
 use Rattle.solver.specs.Rows.{JointAt, jointOf}
+use Rattle.solver.specs.Snap.{Motion, motion}
 
 abbrev pub vec3 : Vec Float → Vec3
 vec3 v = record { x = v .x; y = v .y; z = v .z }
@@ -36,3 +38,6 @@ pose-is e = ap (λ n. record { r = m3 (n .r); t = vec3 (n .t) }) e
 
 pub joint-is : {a : JointStruct} {n : JointAt} → jointOf a ≡ n → a ≡ record { o = vec3 (n .o); x = vec3 (n .x); z = vec3 (n .z) }
 joint-is e = ap (λ n. record { o = vec3 (n .o); x = vec3 (n .x); z = vec3 (n .z) }) e
+
+pub motion-is : {a : MotionStruct} {n : Motion} → motion a ≡ n → a ≡ record { r = m3 (n .r); t = vec3 (n .t) }
+motion-is e = ap (λ n. record { r = m3 (n .r); t = vec3 (n .t) }) e

@@ -1,16 +1,14 @@
--- `check`, `check_tangent` and `joint_reading` of solve.rs, and how many rows a relation has. Document 01, "What a call says", numbers 11 and 12. Definitions only.
+-- `check`, `check_tangent` and `joint_reading` of solve.rs. Document 01, "What a call says", numbers 11 and 12. Definitions only.
 use Prim.Native.Nat.{ℕ}
 use mathlib.Core.Bool.{Bool, true, false, not, _&&_, _||_, cond}
-use mathlib.Core.Option.{Option, none, some}
 use lib.Ieee.{Float, lt}
 use Rattle.numbers.specs.Ops.{doubles}
 use Rattle.numbers.specs.Double.{zero64}
 use Rattle.vectors.specs.Vec.{subV, dot}
 use Rattle.solver.specs.Geometry.{Geo, plane, line, point, circle, Pose}
 use Rattle.solver.specs.Model.{End, Law, mate, flush, angle, insert, tangent, symmetry, joint, Rel}
-use Rattle.solver.specs.Rows.{isPlane, matePrim, JointAt, jointAt, turn}
-use Rattle.solver.specs.declared.model.JointKind.{JointKind}
-use Rattle.solver.specs.declared.model.JointKind.the-variants.{Rigid, Revolute, Slider, Cylindrical, Planar, Ball}
+use Rattle.solver.specs.Rows.{isPlane, JointAt, jointAt, turn}
+use Rattle.solver.specs.declared.judge.Reading.{Reading as ReadingStruct}
 
 -- ---- which pairs suit a law
 
@@ -45,12 +43,16 @@ twoOfAKind (circle c n r) (line q d) = true
 twoOfAKind (circle c n r) (point q) = false
 twoOfAKind (circle c n r) (circle d m s) = true
 
+-- not two planes, and no circle
+unfoldable pub suitsTangent : Geo Float → Geo Float → Bool
+suitsTangent a b = not (isCircle a || (isCircle b || (isPlane a && isPlane b)))
+
 unfoldable pub suits : Law → Geo Float → Geo Float → Bool
 suits (mate off) a b = true
 suits (flush off) a b = isPlane a && isPlane b
 suits (angle want reference) a b = hasDirection a && hasDirection b
 suits (insert off aligned) a b = isCircle a && isCircle b
-suits (tangent off inside) a b = not ((isPlane a && isPlane b) || (isCircle a || isCircle b))
+suits (tangent off inside) a b = suitsTangent a b
 suits (symmetry p) a b = isPlane (p .prim) && twoOfAKind a b
 suits (joint kind flip off want) a b = true
 
@@ -58,9 +60,15 @@ suits (joint kind flip off want) a b = true
 unfoldable pub check : Law → Geo Float → Geo Float → ℕ
 check law a b = cond (suits law a b) 0 11
 
+unfoldable pub lineOrPoint : Geo Float → Bool
+lineOrPoint (plane p n) = false
+lineOrPoint (line p d) = true
+lineOrPoint (point p) = true
+lineOrPoint (circle c n r) = false
+
 -- a line or a point with a radius above 0
 unfoldable pub isRound : End → Bool
-isRound e = lt zero64 (e .radius) && not (isPlane (e .prim) || isCircle (e .prim))
+isRound e = lt zero64 (e .radius) && lineOrPoint (e .prim)
 
 -- `check_tangent`: 0 for a round end with another or with a plane, else 12
 unfoldable pub checkTangent : End → End → ℕ
@@ -86,9 +94,12 @@ pub record Reading : Type 0 where
   pub offset : Float
   pub angle : Float
 
+abbrev pub reading : ReadingStruct → Reading
+reading r = record { offset = r .offset; angle = r .angle }
+
 -- how far b's origin is from a's along a's Z, and how far b is turned from a about it
-unfoldable pub jointReading : End → End → Pose Float → Pose Float → Reading
-jointReading a b qa qb =
-    let ja = jointAt a qa in
-    let jb = jointAt b qb in
+unfoldable pub jointReading : Rel → Pose Float → Pose Float → Reading
+jointReading rel qa qb =
+    let ja = jointAt (rel .a) qa in
+    let jb = jointAt (rel .b) qb in
     record { offset = dot doubles (subV doubles (jb .o) (ja .o)) (ja .z); angle = turn (ja .x) (jb .x) (ja .z) }

@@ -10,3 +10,7 @@ pub mod Memory
 pub mod RowBound
 pub mod RowBoundLaws
 pub mod Record
+pub mod Count
+pub mod CountLaws
+pub mod LmPosts
+pub mod Dense

@@ -161,9 +161,16 @@ solveDense a b n = andThen (eliminateTo (record { a = a; b = b }) (scaleOf a) n 
 unfoldable pub gram : List Float → List Float → ℕ → ℕ → ℕ → Float
 gram jac winv n i k = sumFrom zero64 (λ c. mul binary64 (mul binary64 (getD jac (i * n + c) nan) (getD jac (k * n + c) nan)) (getD winv c nan)) n
 
+-- the same in memory: n doubles from i on, from k on and from w on
+unfoldable pub gramAt : List Float → ℕ → ℕ → ℕ → ℕ → Float
+gramAt s i k w n = sumFrom zero64 (λ c. mul binary64 (mul binary64 (getD s (i + c) nan) (getD s (k + c) nan)) (getD s (w + c) nan)) n
+
 -- J W⁻¹ Jᵀ, the same on both sides of its diagonal
+abbrev pub normalAt : List Float → List Float → ℕ → ℕ → ℕ → Float
+normalAt jac winv n i k = gram jac winv n (min i k) (max i k)
+
 unfoldable pub normal : List Float → List Float → ℕ → ℕ → List Float
-normal jac winv n rows = tableOf (λ i k. gram jac winv n (min i k) (max i k)) rows rows
+normal jac winv n rows = tableOf (normalAt jac winv n) rows rows
 
 -- the largest entry of the diagonal, at least 1e-12
 unfoldable pub diagTo : List Float → ℕ → ℕ → Float

@@ -5,10 +5,12 @@ use Prim.Native.Nat.{ℕ}
 use mathlib.Core.Bool.{Bool, true, false, _||_, cond}
 use mathlib.Core.List.{List, [], _∷_}
 use mathlib.Core.Option.{Option, none, some}
+use lib.Dec.{ltb}
 use lib.ListN.{length, take, getD}
 use lib.Ieee.{Float, binary64, add, sub, mul, neg, le, ofBits}
 use Rattle.numbers.specs.Ops.{Ops, doubles}
 use Rattle.numbers.specs.Double.{zero64, one64, abs, remEuclid}
+use Rattle.numbers.specs.MaxAbs.{maxAbsStep}
 use Rattle.arcs.specs.Arcs.{arctangent}
 use Rattle.vectors.specs.Vec.{Vec, vec, zeroV, addV, subV, scaleV, dot, cross, len}
 use Rattle.vectors.specs.Space.{Frame}
@@ -39,6 +41,10 @@ pack l =
       r5 = getD l 5 zero64;
       r6 = getD l 6 zero64;
     }
+
+-- `maxAbsStep` for row k of n; m where there is no such row
+unfoldable pub stepBelow : ℕ → ℕ → Float → Float → Float
+stepBelow n k m a = cond (ltb k n) (maxAbsStep m a) m
 
 -- ---- what rows are made of
 

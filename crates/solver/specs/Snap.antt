@@ -4,12 +4,13 @@ use mathlib.Core.Option.{Option, none, some}
 use lib.Ieee.{Float, binary64, sub, le}
 use Rattle.numbers.specs.Ops.{doubles}
 use Rattle.numbers.specs.Double.{zero64}
-use Rattle.vectors.specs.Vec.{Vec, zeroV, addV, subV, scaleV, negV, dot}
+use Rattle.vectors.specs.Vec.{Vec, vec, zeroV, addV, subV, scaleV, negV, dot}
 use Rattle.vectors.specs.Space.{Frame}
-use Rattle.vectors.specs.Math.{Mat, identity, apply, mulM, transpose, exp, rotationBetween, ofFrame, frameOf}
+use Rattle.vectors.specs.Math.{Mat, mat, identity, apply, mulM, transpose, exp, rotationBetween, ofFrame, frameOf}
 use Rattle.solver.specs.Geometry.{Geo, plane, line, point, circle, Pose, place, placed, directionOf, frameOr}
 use Rattle.solver.specs.Model.{End, Law, mate, flush, angle, insert, tangent, symmetry, joint, Rel}
 use Rattle.solver.specs.Rows.{matePrim, perp, turn, planeGap, JointAt, jointAt}
+use Rattle.solver.specs.declared.snap.Motion.{Motion as MotionStruct}
 use Rattle.solver.specs.declared.model.JointKind.{JointKind}
 use Rattle.solver.specs.declared.model.JointKind.the-variants.{Rigid, Revolute, Slider, Cylindrical, Planar, Ball}
 
@@ -17,6 +18,10 @@ use Rattle.solver.specs.declared.model.JointKind.the-variants.{Rigid, Re
 
 abbrev pub Motion : Type 0
 Motion = Pose Float
+
+-- the numbers of a `Motion`
+abbrev pub motion : MotionStruct → Motion
+motion m = record { r = mat (m .r); t = vec (m .t) }
 
 -- Motion::IDENTITY
 abbrev pub still : Motion
@@ -35,13 +40,21 @@ about r center t = record { r = r; t = addV doubles (subV doubles center (apply 
 
 -- ---- turning
 
+-- da, turned round where it points against db
+abbrev pub sameSide : Vec Float → Vec Float → Vec Float
+sameSide da db = cond (le zero64 (dot doubles da db)) da (negV doubles da)
+
+-- v or its opposite
+abbrev pub along : Bool → Vec Float → Vec Float
+along same v = cond same v (negV doubles v)
+
 -- where a mate turns b's direction
 unfoldable pub mateTarget : Geo Float → Geo Float → Vec Float → Vec Float → Option (Vec Float)
 mateTarget (plane p n) (plane q m) da db = some (negV doubles da)
 mateTarget (plane p n) (line q d) da db = none
 mateTarget (plane p n) (point q) da db = none
 mateTarget (plane p n) (circle c m r) da db = none
-mateTarget (line p d) (line q e) da db = some (cond (le zero64 (dot doubles da db)) da (negV doubles da))
+mateTarget (line p d) (line q e) da db = some (sameSide da db)
 mateTarget (line p d) (plane q m) da db = none
 mateTarget (line p d) (point q) da db = none
 mateTarget (line p d) (circle c m r) da db = none
@@ -49,11 +62,11 @@ mateTarget (point p) b da db = none
 mateTarget (circle c n r) b da db = none
 
 unfoldable pub jointTarget : JointKind → Bool → Vec Float → Option (Vec Float)
-jointTarget Rigid flip da = some (cond flip da (negV doubles da))
-jointTarget Revolute flip da = some (cond flip da (negV doubles da))
-jointTarget Slider flip da = some (cond flip da (negV doubles da))
-jointTarget Cylindrical flip da = some (cond flip da (negV doubles da))
-jointTarget Planar flip da = some (cond flip da (negV doubles da))
+jointTarget Rigid flip da = some (along flip da)
+jointTarget Revolute flip da = some (along flip da)
+jointTarget Slider flip da = some (along flip da)
+jointTarget Cylindrical flip da = some (along flip da)
+jointTarget Planar flip da = some (along flip da)
 jointTarget Ball flip da = none
 
 -- the direction that b's is turned to, from a's direction da and b's db, ends placed
@@ -61,7 +74,7 @@ unfoldable pub targetDir : Law → Geo Float → Geo Float → Vec Float → Vec
 targetDir (mate off) pa pb da db = mateTarget (matePrim pa) (matePrim pb) da db
 targetDir (flush off) pa pb da db = some da
 targetDir (angle want reference) pa pb da db = none
-targetDir (insert off aligned) pa pb da db = some (cond aligned da (negV doubles da))
+targetDir (insert off aligned) pa pb da db = some (along aligned da)
 targetDir (tangent off inside) pa pb da db = none
 targetDir (symmetry p) pa pb da db = none
 targetDir (joint kind flip off want) pa pb da db = jointTarget kind flip da
@@ -179,30 +192,48 @@ jointSlide Cylindrical off oa za ob = perp doubles (subV doubles oa ob) za
 jointSlide Planar off oa za ob = slideTo off ob oa za
 jointSlide Ball off oa za ob = toOrigin off oa za ob
 
--- ends placed, b's after the turning; ob is b's joint origin then
-unfoldable pub slide : Law → End → End → Geo Float → Geo Float → JointAt → Vec Float → Vec Float
-slide (mate off) a b pa pb ja ob = mateSlide off (matePrim pa) (matePrim pb)
-slide (flush off) a b pa pb ja ob = flushSlide off pa pb
-slide (angle want reference) a b pa pb ja ob = zeroV
-slide (insert off aligned) a b pa pb ja ob = insertSlide off pa pb
-slide (tangent off inside) a b pa pb ja ob = tangentSlide (planeGap doubles (a .radius) (b .radius) off inside) pa pb
-slide (symmetry s) a b pa pb ja ob = zeroV
-slide (joint kind flip off want) a b pa pb ja ob = jointSlide kind off (ja .o) (ja .z) ob
+-- ends of the radii ra and rb, placed, b's after the turning; ob is b's joint origin then
+unfoldable pub slide : Law → Float → Float → Geo Float → Geo Float → JointAt → Vec Float → Vec Float
+slide (mate off) ra rb pa pb ja ob = mateSlide off (matePrim pa) (matePrim pb)
+slide (flush off) ra rb pa pb ja ob = flushSlide off pa pb
+slide (angle want reference) ra rb pa pb ja ob = zeroV
+slide (insert off aligned) ra rb pa pb ja ob = insertSlide off pa pb
+slide (tangent off inside) ra rb pa pb ja ob = tangentSlide (planeGap doubles ra rb off inside) pa pb
+slide (symmetry s) ra rb pa pb ja ob = zeroV
+slide (joint kind flip off want) ra rb pa pb ja ob = jointSlide kind off (ja .o) (ja .z) ob
 
--- b's ends turned onto a's about the centre
+-- b's direction turned onto a's, then about the joint's axis
+unfoldable pub turning : Law → Geo Float → Geo Float → JointAt → JointAt → Mat Float
+turning law pa pb ja jb = snapTurn law ja jb (turnOnto law pa pb (snapDir law pa ja) (snapDir law pb jb))
+
+-- ends a and b at the poses qa and qb, b's body turned about its centre
 unfoldable pub turned : Rel → Pose Float → Pose Float → Vec Float → Motion
 turned rel qa qb center =
-    let pa = placed doubles qa (rel .a .prim) in
-    let pb = placed doubles qb (rel .b .prim) in
-    let ja = jointAt (rel .a) qa in
-    let jb = jointAt (rel .b) qb in
-    about (snapTurn (rel .law) ja jb (turnOnto (rel .law) pa pb (snapDir (rel .law) pa ja) (snapDir (rel .law) pb jb))) center zeroV
+    about
+    (turning (rel .law) (placed doubles qa (rel .a .prim)) (placed doubles qb (rel .b .prim)) (jointAt (rel .a) qa) (jointAt (rel .b) qb))
+    center
+    zeroV
 
--- `snap`: turned, then slid; ends a and b at the poses qa and qb, b's body about its centre
+-- a pose after a motion
+unfoldable pub moved : Motion → Pose Float → Pose Float
+moved m q = record { r = mulM (m .r) (q .r); t = place doubles m (q .t) }
+
+-- how far b slides after the turning m
+unfoldable pub sliding : Rel → Pose Float → Pose Float → Motion → Vec Float
+sliding rel qa qb m =
+    slide
+    (rel .law)
+    (rel .a .radius)
+    (rel .b .radius)
+    (placed doubles qa (rel .a .prim))
+    (placed doubles (moved m qb) (rel .b .prim))
+    (jointAt (rel .a) qa)
+    (place doubles m (jointAt (rel .b) qb .o))
+
+-- a motion, then moving by v
+unfoldable pub slid : Motion → Vec Float → Motion
+slid m v = record { r = m .r; t = addV doubles (m .t) v }
+
+-- `snap`: turned, then slid
 unfoldable pub snap : Rel → Pose Float → Pose Float → Vec Float → Motion
-snap rel qa qb center =
-    let m = turned rel qa qb center in
-    let pa = placed doubles qa (rel .a .prim) in
-    let pb = placed doubles (record { r = mulM (m .r) (qb .r); t = place doubles m (qb .t) }) (rel .b .prim) in
-    let ob = place doubles m (jointAt (rel .b) qb .o) in
-    record { r = m .r; t = addV doubles (m .t) (slide (rel .law) (rel .a) (rel .b) pa pb (jointAt (rel .a) qa) ob) }
+snap rel qa qb center = slid (turned rel qa qb center) (sliding rel qa qb (turned rel qa qb center))

@@ -2,7 +2,7 @@
 ghost use mathlib.Core.Path.{_≡_};
 ghost use Rattle.numbers.specs.Ops.{doubles};
 ghost use Rattle.vectors.specs.Vec.{vec};
-ghost use Rattle.vectors.specs.Space.{frame, made, world};
+ghost use Rattle.vectors.specs.Space.{frame, made};
 ghost use Rattle.vectors.specs.Math.{mat};
 ghost use Rattle.solver.specs.Geometry as spec;
 use vectors::math::M3;
@@ -106,7 +106,7 @@ impl Prim {
         ensures { λ w. ⌜ frame w ≡ spec.jointFrame (spec.prim self) mirrored ⌝ }
     {
         let z = joint_axis(self.direction(), mirrored);
-        frame_or_world(Frame::from_normal(self.point(), z))
+        frame_or(Frame::from_normal(self.point(), z), Frame::WORLD)
     }
 }
 
@@ -120,11 +120,12 @@ fn joint_axis(d: Direction, mirrored: bool) -> Vec3
     }
 }
 
-fn frame_or_world(f: NewFrame) -> Frame
-    ensures { λ w. ⌜ frame w ≡ spec.frameOr (made f) world ⌝ }
+// The frame, or the other where there is none.
+pub fn frame_or(f: NewFrame, other: Frame) -> Frame
+    ensures { λ w. ⌜ frame w ≡ spec.frameOr (made f) (frame other) ⌝ }
 {
     match f {
         NewFrame::Made(g) => g,
-        NewFrame::Nothing => Frame::WORLD,
+        NewFrame::Nothing => other,
     }
 }

@@ -1,5 +1,10 @@
 // The assembly solver: geometry.rs, lm.rs and solve.rs of tenon, with JointKind of model.rs.
+pub mod count;
 pub mod geometry;
+pub mod judge;
+pub mod dense;
+pub mod lm;
 pub mod model;
 pub mod rows;
 pub mod record;
+pub mod snap;

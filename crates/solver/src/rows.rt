@@ -138,6 +138,38 @@ impl Rows {
             r6: x,
         }
     }
+
+    // The largest magnitude, 0 for none; infinity where a row is not finite.
+    pub fn max_abs(self) -> f64
+        ensures { λ r. ⌜ r ≡ largest.maxAbs (spec.rowsOf self) ⌝ }
+    {
+        let n = self.n;
+        let m0 = max_abs_below(n, 0, 0.0, self.r0);
+        let m1 = max_abs_below(n, 1, m0, self.r1);
+        let m2 = max_abs_below(n, 2, m1, self.r2);
+        let m3 = max_abs_below(n, 3, m2, self.r3);
+        let m4 = max_abs_below(n, 4, m3, self.r4);
+        let m5 = max_abs_below(n, 5, m4, self.r5);
+        max_abs_below(n, 6, m5, self.r6)
+    }
+}
+
+// From m on: infinity for a row that is not finite, else the larger of m and its magnitude.
+fn max_abs_step(m: f64, a: f64) -> f64
+    ensures { λ r. ⌜ r ≡ largest.maxAbsStep m a ⌝ }
+{
+    if numbers::is_finite(a) {
+        numbers::max(m, numbers::abs(a))
+    } else {
+        1.0 / 0.0
+    }
+}
+
+// The same for row k of n; m where there is no such row.
+fn max_abs_below(n: usize, k: usize, m: f64, a: f64) -> f64
+    ensures { λ r. ⌜ r ≡ spec.stepBelow n k m a ⌝ }
+{
+    if k < n { max_abs_step(m, a) } else { m }
 }
 
 // `tangent_gap` where an end is a plane: in front of it, or behind it when `inside`.

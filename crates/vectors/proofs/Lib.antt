@@ -4,3 +4,4 @@ pub mod Sorting
 pub mod Eigen6Laws
 pub mod EigenLaws
 pub mod EigenSortLaws
+pub mod SpanLaws

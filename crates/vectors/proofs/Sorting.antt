@@ -104,6 +104,10 @@ module _ {A : Type 0} (before : A → A → Bool) (d : A) where
   unfolding sort
   sorted-end l n = reverseAux-eq (sortLast before [] (take n l)) (drop n l)
 
+  pub length-sort : (l : List A) → length (sort before l) ≡ length l
+  unfolding sort
+  length-sort l = length-reverse (sortLast before [] l) ∙ length-sortLast [] l ∙ add-zero (length l)
+
 -- the sort of images is the image of the sort, where the test sees the image alone
 module _ {A B : Type 0} (before : A → A → Bool) (before' : B → B → Bool) (f : A → B) (same : (x y : A) → before x y ≡ before' (f x) (f y)) where
   insert-map : (x : A) (l : List A) → map f (insertLast before x l) ≡ insertLast before' (f x) (map f l)

@@ -11,4 +11,5 @@ pub mod Flat
 pub mod EigenMemory
 pub mod Eigen6
 pub mod Span
+pub mod Basis
 pub mod Sorted

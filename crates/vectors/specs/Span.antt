@@ -21,13 +21,15 @@ without u (b ∷ bs) = without (subV doubles u (scaleV doubles b (dot doubles u 
 abbrev pub longer : Vec Float → Vec Float → Bool
 longer a b = before (len b) (len a)
 
--- each vector whose rest is longer than `least` joins the basis, up to three
-unfoldable pub joined : Float → List (Vec Float) → List (Vec Float) → List (Vec Float)
+-- a vector whose rest is longer than `least` joins the basis, up to three
+unfoldable pub join : Float → List (Vec Float) → Vec Float → List (Vec Float)
 unfolding without
+join least out v = let u = without v out in cond (lt least (len u) && ltb (length out) 3) (out ++ (normalized u ∷ [])) out
+
+unfoldable pub joined : Float → List (Vec Float) → List (Vec Float) → List (Vec Float)
+unfolding join
 joined least out [] = out
-joined least out (v ∷ vs) =
-    let u = without v out in
-    joined least (cond (lt least (len u) && ltb (length out) 3) (out ++ (normalized u ∷ [])) out) vs
+joined least out (v ∷ vs) = joined least (join least out v) vs
 
 -- an orthonormal basis of the span, longest first; `rel` is the part of the longest that still counts
 unfoldable pub spanBasis : List (Vec Float) → Float → List (Vec Float)

@@ -4,5 +4,6 @@ pub mod eigen6;
 pub mod math;
 pub mod root;
 pub mod space;
+pub mod span;
 pub mod tol;
 pub mod vec;

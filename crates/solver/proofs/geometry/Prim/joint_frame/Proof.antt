@@ -16,12 +16,12 @@ point-requires c κs = tt
 from-normal-requires : tie.Need-from-normal-requires
 from-normal-requires c κs = tt
 
-frame-or-world-requires : tie.Need-frame-or-world-requires
-frame-or-world-requires c κs = tt
+frame-or-requires : tie.Need-frame-or-requires
+frame-or-requires c κs = tt
 
 returns : tie.Need-returns
 unfolding jointFrame
-returns c = rw (frame-is (c .frame-or-world .ensures), c .before .from-normal .ensures, vec-is (c .before .before .point .ensures), vec-is (c .before .before .before .joint-axis .ensures), c .before .before .before .before .direction .ensures)
+returns c = rw (frame-is (c .frame-or .ensures), c .before .from-normal .ensures, vec-is (c .before .before .point .ensures), vec-is (c .before .before .before .joint-axis .ensures), c .before .before .before .before .direction .ensures)
 
 pub joint-frame-spec : {M : Type 1} → statement M
 joint-frame-spec =
@@ -31,5 +31,5 @@ joint-frame-spec =
     joint-axis-requires
     point-requires
     from-normal-requires
-    frame-or-world-requires
+    frame-or-requires
     returns)

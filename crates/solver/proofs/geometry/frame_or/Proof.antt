@@ -1,7 +1,7 @@
--- `solver::geometry::frame_or_world` meets its contract. Assumes nothing.
+-- `solver::geometry::frame_or` meets its contract. Assumes nothing.
 use borrow.Author.Needs.{needs}
-use Rattle.solver.proofs.geometry.frame_or_world.Statement.{statement}
-use Rattle.solver.proofs.geometry.frame_or_world.Tie as tie
+use Rattle.solver.proofs.geometry.frame_or.Statement.{statement}
+use Rattle.solver.proofs.geometry.frame_or.Tie as tie
 
 enum-known-f : tie.Need-enum-known-f
 enum-known-f c = search needs
@@ -16,5 +16,5 @@ returns c = rw (c .before .f .given .1)
 returns-2 : tie.Need-returns-2
 returns-2 c = rw (c .enum-told .given .1)
 
-pub frame-or-world-spec : {M : Type 1} → statement M
-frame-or-world-spec = tie.close (tie.spec enum-known-f enum-told returns returns-2)
+pub frame-or-spec : {M : Type 1} → statement M
+frame-or-spec = tie.close (tie.spec enum-known-f enum-told returns returns-2)

@@ -1,0 +1,15 @@
+-- `solver::snap::Motion::slid` meets its contract. Assumes nothing.
+use Rattle.solver.specs.Snap.{slid}
+use Rattle.solver.proofs.Values.{vec-is}
+use Rattle.solver.proofs.snap.Motion.slid.Statement.{statement}
+use Rattle.solver.proofs.snap.Motion.slid.Tie as tie
+
+add-requires : tie.Need-add-requires
+add-requires c κs = tt
+
+returns : tie.Need-returns
+unfolding slid
+returns c = rw (vec-is (c .add .ensures))
+
+pub slid-spec : {M : Type 1} → statement M
+slid-spec = tie.close (tie.spec add-requires returns)
