@@ -14,3 +14,4 @@ pub mod Count
 pub mod CountLaws
 pub mod LmPosts
 pub mod Dense
+pub mod Scene
