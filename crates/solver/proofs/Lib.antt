@@ -4,3 +4,5 @@ pub mod TableLaws
 pub mod RecordLaws
 pub mod LmLaws
 pub mod DenseLaws
+pub mod SceneLaws
+pub mod SlopeLaws

@@ -15,3 +15,4 @@ pub mod CountLaws
 pub mod LmPosts
 pub mod Dense
 pub mod Cases
+pub mod Scene

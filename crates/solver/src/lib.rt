@@ -7,4 +7,6 @@ pub mod lm;
 pub mod model;
 pub mod record;
 pub mod rows;
+pub mod scene;
+pub mod slopes;
 pub mod snap;
