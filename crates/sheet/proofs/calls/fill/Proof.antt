@@ -1,3 +1,4 @@
+-- `sheet::calls::fill` meets its contract. Assumes nothing.
 use native.Mathlib.Omega.{arith}
 use lib.ListN.{length-set}
 use Rattle.sheet.specs.Calls.{poseDoubles}
