@@ -1,3 +1,4 @@
+-- `sheet::calls::center_in` meets its contract. Assumes nothing.
 use native.Mathlib.Omega.{arith}
 use Rattle.sheet.specs.Calls.{centerIn}
 use Rattle.sheet.proofs.CallLaws.{center-missing, center-there}

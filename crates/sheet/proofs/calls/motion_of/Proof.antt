@@ -1,3 +1,4 @@
+-- `sheet::calls::motion_of` meets its contract. Assumes nothing.
 use native.Mathlib.Omega.{arith}
 use Rattle.sheet.proofs.CallLaws.{motion-is, reading-passes}
 use borrow.Author.Needs.{needs}

@@ -1,3 +1,4 @@
+-- `sheet::calls::pose_in` meets its contract. Assumes nothing.
 use native.Mathlib.Omega.{arith}
 use Rattle.sheet.specs.Calls.{poseIn}
 use Rattle.sheet.proofs.CallLaws.{pose-missing, pose-there}

@@ -1,3 +1,4 @@
+-- `sheet::calls::reading_of` meets its contract. Assumes nothing.
 use native.Mathlib.Omega.{arith}
 use Rattle.sheet.proofs.CallLaws.{reading-is, reading-passes}
 use borrow.Author.Needs.{needs}

@@ -1,3 +1,4 @@
+-- `sheet::calls::relation_fault` meets its contract. Assumes nothing.
 use mathlib.Core.Path.{sym, _∙_}
 use native.Mathlib.Omega.{arith}
 use Rattle.sheet.proofs.CallLaws.{first, later, reading-parts, relation-missing, relation-there, sheet-passes}

@@ -1,3 +1,4 @@
+-- `sheet::calls::sheet_joint_reading` meets its contract. Assumes nothing.
 use mathlib.Core.Path.{sym, _∙_}
 use Rattle.sheet.proofs.CallLaws.{reading-done, reading-kept}
 use borrow.Author.Needs.{needs}

@@ -1,3 +1,4 @@
+-- `sheet::calls::sheet_judge` meets its contract. Assumes nothing.
 use mathlib.Core.Path.{ap, sym, _∙_}
 use Rattle.solver.specs.Judge.{judge}
 use Rattle.sheet.proofs.CallLaws.{first, judge-parts, later}

@@ -1,3 +1,4 @@
+-- `sheet::calls::sheet_snap` meets its contract. Assumes nothing.
 use mathlib.Core.Path.{sym, _∙_}
 use native.Mathlib.Omega.{arith}
 use Rattle.sheet.proofs.CallLaws.{fewer-lent, first, later, motion-done, motion-kept, snap-parts, twelve-lent}

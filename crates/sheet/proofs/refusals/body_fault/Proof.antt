@@ -1,3 +1,4 @@
+-- `sheet::refusals::body_fault` meets its contract. Assumes nothing.
 use mathlib.Core.Path.{sym, _∙_}
 use Rattle.sheet.specs.Refusals.{bodyFault}
 use borrow.Author.Needs.{needs}

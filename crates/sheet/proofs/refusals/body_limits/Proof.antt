@@ -1,61 +1,45 @@
+-- `sheet::refusals::body_limits` meets its contract. Assumes nothing.
 use Rattle.sheet.specs.Refusals.{bodyLimits}
 use borrow.Author.Needs.{needs}
 use Rattle.sheet.proofs.refusals.body_limits.Statement.{statement}
 use Rattle.sheet.proofs.refusals.body_limits.Tie as tie
-use Rattle.sheet.proofs.refusals.body_limits.Reads as reads
-use Rattle.sheet.proofs.refusals.body_limits.Lts as lts
-use Rattle.sheet.proofs.refusals.double_within.Reads as double-within-reads
-use Rattle.sheet.proofs.refusals.vec_within.Reads as vec-within-reads
 
--- src/refusals.rt:268:42
 add-vec-within : tie.Need-add-vec-within
 add-vec-within c = search needs
 
--- src/refusals.rt:268:9
 vec-within-requires : tie.Need-vec-within-requires
 vec-within-requires c κs = search needs
 
--- src/refusals.rt:269:37
 add-vec-within-2 : tie.Need-add-vec-within-2
 add-vec-within-2 c = search needs
 
--- src/refusals.rt:269:9
 vec-within-requires-2 : tie.Need-vec-within-requires-2
 vec-within-requires-2 c κs = search needs
 
--- src/refusals.rt:270:37
 add-vec-within-3 : tie.Need-add-vec-within-3
 add-vec-within-3 c = search needs
 
--- src/refusals.rt:270:9
 vec-within-requires-3 : tie.Need-vec-within-requires-3
 vec-within-requires-3 c κs = search needs
 
--- src/refusals.rt:271:37
 add-vec-within-4 : tie.Need-add-vec-within-4
 add-vec-within-4 c = search needs
 
--- src/refusals.rt:271:9
 vec-within-requires-4 : tie.Need-vec-within-requires-4
 vec-within-requires-4 c κs = search needs
 
--- src/refusals.rt:272:42
 add-vec-within-5 : tie.Need-add-vec-within-5
 add-vec-within-5 c = search needs
 
--- src/refusals.rt:272:9
 vec-within-requires-5 : tie.Need-vec-within-requires-5
 vec-within-requires-5 c κs = search needs
 
--- src/refusals.rt:273:43
 add-double-within : tie.Need-add-double-within
 add-double-within c = search needs
 
--- src/refusals.rt:273:9
 double-within-requires : tie.Need-double-within-requires
 double-within-requires c κs = search needs
 
--- src/refusals.rt:264:1
 returns : tie.Need-returns
 unfolding bodyLimits
 returns c = rw (c .double-within .ensures, c .before .vec-within5 .ensures, c .before .before .vec-within4 .ensures, c .before .before .before .vec-within3 .ensures, c .before .before .before .before .vec-within2 .ensures, c .before .before .before .before .before .vec-within .ensures)

@@ -1,3 +1,4 @@
+-- `sheet::refusals::body_shape` meets its contract. Assumes nothing.
 use Rattle.sheet.specs.Refusals.{bodyShape}
 use borrow.Author.Needs.{needs}
 use Rattle.sheet.proofs.refusals.body_shape.Statement.{statement}

@@ -1,15 +1,12 @@
+-- `sheet::refusals::byte_up_to` meets its contract. Assumes nothing.
 use Rattle.sheet.specs.Refusals.{byteUpTo}
 use Rattle.sheet.proofs.refusals.byte_up_to.Statement.{statement}
 use Rattle.sheet.proofs.refusals.byte_up_to.Tie as tie
-use Rattle.sheet.proofs.refusals.byte_up_to.Reads as reads
-use Rattle.sheet.proofs.refusals.byte_up_to.Lts as lts
 
--- src/refusals.rt:152:1
 returns : tie.Need-returns
 unfolding byteUpTo
 returns c = rw (c .if1 .taken)
 
--- src/refusals.rt:152:1
 returns-2 : tie.Need-returns-2
 unfolding byteUpTo
 returns-2 c = rw (c .if1 .left)

@@ -1,45 +1,33 @@
+-- `sheet::refusals::end_limits` meets its contract. Assumes nothing.
 use Rattle.sheet.specs.Refusals.{endLimits}
 use borrow.Author.Needs.{needs}
 use Rattle.sheet.proofs.refusals.end_limits.Statement.{statement}
 use Rattle.sheet.proofs.refusals.end_limits.Tie as tie
-use Rattle.sheet.proofs.refusals.end_limits.Reads as reads
-use Rattle.sheet.proofs.refusals.end_limits.Lts as lts
-use Rattle.sheet.proofs.refusals.double_within.Reads as double-within-reads
-use Rattle.sheet.proofs.refusals.vec_within.Reads as vec-within-reads
 
--- src/refusals.rt:281:41
 add-vec-within : tie.Need-add-vec-within
 add-vec-within c = search needs
 
--- src/refusals.rt:281:9
 vec-within-requires : tie.Need-vec-within-requires
 vec-within-requires c κs = search needs
 
--- src/refusals.rt:282:45
 add-vec-within-2 : tie.Need-add-vec-within-2
 add-vec-within-2 c = search needs
 
--- src/refusals.rt:282:9
 vec-within-requires-2 : tie.Need-vec-within-requires-2
 vec-within-requires-2 c κs = search needs
 
--- src/refusals.rt:283:52
 add-double-within : tie.Need-add-double-within
 add-double-within c = search needs
 
--- src/refusals.rt:283:9
 double-within-requires : tie.Need-double-within-requires
 double-within-requires c κs = search needs
 
--- src/refusals.rt:284:49
 add-double-within-2 : tie.Need-add-double-within-2
 add-double-within-2 c = search needs
 
--- src/refusals.rt:284:9
 double-within-requires-2 : tie.Need-double-within-requires-2
 double-within-requires-2 c κs = search needs
 
--- src/refusals.rt:277:1
 returns : tie.Need-returns
 unfolding endLimits
 returns c = rw (c .double-within2 .ensures, c .before .double-within .ensures, c .before .before .vec-within2 .ensures, c .before .before .before .vec-within .ensures)

@@ -1,20 +1,15 @@
+-- `sheet::refusals::end_names` meets its contract. Assumes nothing.
 use Rattle.sheet.specs.Refusals.{endNames}
 use borrow.Author.Needs.{needs}
 use Rattle.sheet.proofs.refusals.end_names.Statement.{statement}
 use Rattle.sheet.proofs.refusals.end_names.Tie as tie
-use Rattle.sheet.proofs.refusals.end_names.Reads as reads
-use Rattle.sheet.proofs.refusals.end_names.Lts as lts
-use Rattle.sheet.proofs.refusals.number_at.Reads as number-at-reads
 
--- src/refusals.rt:225:29
 add-number-at : tie.Need-add-number-at
 add-number-at c = search needs
 
--- src/refusals.rt:225:9
 number-at-requires : tie.Need-number-at-requires
 number-at-requires c κs = search needs
 
--- src/refusals.rt:221:1
 returns : tie.Need-returns
 unfolding endNames
 returns c = rw (c .number-at .ensures .0)

@@ -1,3 +1,4 @@
+-- `sheet::refusals::end_shape` meets its contract. Assumes nothing.
 use Rattle.sheet.specs.Refusals.{endShape}
 use borrow.Author.Needs.{needs}
 use Rattle.sheet.proofs.refusals.end_shape.Statement.{statement}

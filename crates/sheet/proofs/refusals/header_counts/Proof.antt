@@ -1,20 +1,15 @@
+-- `sheet::refusals::header_counts` meets its contract. Assumes nothing.
 use Rattle.sheet.specs.Refusals.{headerCounts}
 use borrow.Author.Needs.{needs}
 use Rattle.sheet.proofs.refusals.header_counts.Statement.{statement}
 use Rattle.sheet.proofs.refusals.header_counts.Tie as tie
-use Rattle.sheet.proofs.refusals.header_counts.Reads as reads
-use Rattle.sheet.proofs.refusals.header_counts.Lts as lts
-use Rattle.sheet.proofs.refusals.number_at.Reads as number-at-reads
 
--- src/refusals.rt:116:9
 number-at-requires : tie.Need-number-at-requires
 number-at-requires c κs = search needs
 
--- src/refusals.rt:117:9
 number-at-requires-2 : tie.Need-number-at-requires-2
 number-at-requires-2 c κs = search needs
 
--- src/refusals.rt:112:1
 returns : tie.Need-returns
 unfolding headerCounts
 returns c = rw (c .number-at2 .ensures .0, c .before .number-at .ensures .0)

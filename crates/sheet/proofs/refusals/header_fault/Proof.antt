@@ -1,48 +1,36 @@
+-- `sheet::refusals::header_fault` meets its contract. Assumes nothing.
 use borrow.Author.Tests.{lt-leb, le-leb}
 use mathlib.Core.Path.{sym, _∙_}
 use Rattle.sheet.specs.Refusals.{headerFault}
 use borrow.Author.Needs.{needs}
 use Rattle.sheet.proofs.refusals.header_fault.Statement.{statement}
 use Rattle.sheet.proofs.refusals.header_fault.Tie as tie
-use Rattle.sheet.proofs.refusals.header_fault.Reads as reads
-use Rattle.sheet.proofs.refusals.header_fault.Lts as lts
-use Rattle.sheet.proofs.refusals.header_counts.Reads as header-counts-reads
-use Rattle.sheet.proofs.refusals.header_offsets.Reads as header-offsets-reads
-use Rattle.sheet.proofs.refusals.header_zeros.Reads as header-zeros-reads
 
--- src/refusals.rt:138:9
 returns : tie.Need-returns
 unfolding headerFault
 returns c = rw (lt-leb 24 _ (c .if1 .taken))
 
--- src/refusals.rt:140:8
 header-zeros-requires : tie.Need-header-zeros-requires
 header-zeros-requires c κs = search needs
 
--- src/refusals.rt:141:12
 header-counts-requires : tie.Need-header-counts-requires
 header-counts-requires c κs = search needs
 
--- src/refusals.rt:142:16
 header-offsets-requires : tie.Need-header-offsets-requires
 header-offsets-requires c κs = search needs
 
--- src/refusals.rt:134:1
 returns-2 : tie.Need-returns-2
 unfolding headerFault
 returns-2 c = rw (le-leb 24 _ (c .before .before .before .before .before .before .if1 .left), sym (c .before .before .before .before .before .header-zeros .ensures) ∙ c .before .before .before .before .if2 .taken, sym (c .before .before .before .header-counts .ensures) ∙ c .before .before .if3 .taken, sym (c .before .header-offsets .ensures) ∙ c .if4 .taken)
 
--- src/refusals.rt:134:1
 returns-3 : tie.Need-returns-3
 unfolding headerFault
 returns-3 c = rw (le-leb 24 _ (c .before .before .before .before .before .before .if1 .left), sym (c .before .before .before .before .before .header-zeros .ensures) ∙ c .before .before .before .before .if2 .taken, sym (c .before .before .before .header-counts .ensures) ∙ c .before .before .if3 .taken, sym (c .before .header-offsets .ensures) ∙ c .if4 .left)
 
--- src/refusals.rt:134:1
 returns-4 : tie.Need-returns-4
 unfolding headerFault
 returns-4 c = rw (le-leb 24 _ (c .before .before .before .before .if1 .left), sym (c .before .before .before .header-zeros .ensures) ∙ c .before .before .if2 .taken, sym (c .before .header-counts .ensures) ∙ c .if3 .left)
 
--- src/refusals.rt:134:1
 returns-5 : tie.Need-returns-5
 unfolding headerFault
 returns-5 c = rw (le-leb 24 _ (c .before .before .if1 .left), sym (c .before .header-zeros .ensures) ∙ c .if2 .left)

@@ -1,25 +1,18 @@
+-- `sheet::refusals::header_zeros` meets its contract. Assumes nothing.
 use Rattle.sheet.specs.Refusals.{headerZeros}
 use borrow.Author.Needs.{needs}
 use Rattle.sheet.proofs.refusals.header_zeros.Statement.{statement}
 use Rattle.sheet.proofs.refusals.header_zeros.Tie as tie
-use Rattle.sheet.proofs.refusals.header_zeros.Reads as reads
-use Rattle.sheet.proofs.refusals.header_zeros.Lts as lts
-use Rattle.sheet.proofs.refusals.number_at.Reads as number-at-reads
-use Rattle.sheet.proofs.refusals.word_at.Reads as word-at-reads
 
--- src/refusals.rt:106:9
 number-at-requires : tie.Need-number-at-requires
 number-at-requires c κs = search needs
 
--- src/refusals.rt:107:9
 number-at-requires-2 : tie.Need-number-at-requires-2
 number-at-requires-2 c κs = search needs
 
--- src/refusals.rt:108:9
 word-at-requires : tie.Need-word-at-requires
 word-at-requires c κs = search needs
 
--- src/refusals.rt:102:1
 returns : tie.Need-returns
 unfolding headerZeros
 returns c = rw (c .word-at .ensures, c .before .number-at2 .ensures .0, c .before .before .number-at .ensures .0)

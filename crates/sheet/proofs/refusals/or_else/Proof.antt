@@ -1,15 +1,12 @@
+-- `sheet::refusals::or_else` meets its contract. Assumes nothing.
 use Rattle.sheet.proofs.RefusalLaws.{or-else-first}
 use borrow.Author.Needs.{needs}
 use Rattle.sheet.proofs.refusals.or_else.Statement.{statement}
 use Rattle.sheet.proofs.refusals.or_else.Tie as tie
-use Rattle.sheet.proofs.refusals.or_else.Reads as reads
-use Rattle.sheet.proofs.refusals.or_else.Lts as lts
 
--- src/refusals.rt:328:1
 returns : tie.Need-returns
 returns c = search needs
 
--- src/refusals.rt:328:1
 returns-2 : tie.Need-returns-2
 returns-2 c = or-else-first _ _ (c .if1 .left)
 

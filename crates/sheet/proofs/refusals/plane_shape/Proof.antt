@@ -1,3 +1,4 @@
+-- `sheet::refusals::plane_shape` meets its contract. Assumes nothing.
 use mathlib.Core.Path.{sym, _∙_}
 use Rattle.sheet.specs.Refusals.{planeShape}
 use borrow.Author.Needs.{needs}

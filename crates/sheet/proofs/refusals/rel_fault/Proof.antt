@@ -1,3 +1,4 @@
+-- `sheet::refusals::rel_fault` meets its contract. Assumes nothing.
 use mathlib.Core.Path.{sym, _∙_}
 use Rattle.sheet.specs.Refusals.{relFault}
 use borrow.Author.Needs.{needs}

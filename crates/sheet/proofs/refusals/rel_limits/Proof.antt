@@ -1,62 +1,45 @@
+-- `sheet::refusals::rel_limits` meets its contract. Assumes nothing.
 use Rattle.sheet.specs.Refusals.{relLimits}
 use borrow.Author.Needs.{needs}
 use Rattle.sheet.proofs.refusals.rel_limits.Statement.{statement}
 use Rattle.sheet.proofs.refusals.rel_limits.Tie as tie
-use Rattle.sheet.proofs.refusals.rel_limits.Reads as reads
-use Rattle.sheet.proofs.refusals.rel_limits.Lts as lts
-use Rattle.sheet.proofs.refusals.double_within.Reads as double-within-reads
-use Rattle.sheet.proofs.refusals.end_limits.Reads as end-limits-reads
-use Rattle.sheet.proofs.refusals.vec_within.Reads as vec-within-reads
 
--- src/refusals.rt:292:45
 add-double-within : tie.Need-add-double-within
 add-double-within c = search needs
 
--- src/refusals.rt:292:9
 double-within-requires : tie.Need-double-within-requires
 double-within-requires c κs = search needs
 
--- src/refusals.rt:293:44
 add-double-within-2 : tie.Need-add-double-within-2
 add-double-within-2 c = search needs
 
--- src/refusals.rt:293:9
 double-within-requires-2 : tie.Need-double-within-requires-2
 double-within-requires-2 c κs = search needs
 
--- src/refusals.rt:294:45
 add-vec-within : tie.Need-add-vec-within
 add-vec-within c = search needs
 
--- src/refusals.rt:294:9
 vec-within-requires : tie.Need-vec-within-requires
 vec-within-requires c κs = search needs
 
--- src/refusals.rt:295:27
 add-end-limits : tie.Need-add-end-limits
 add-end-limits c = search needs
 
--- src/refusals.rt:295:9
 end-limits-requires : tie.Need-end-limits-requires
 end-limits-requires c κs = search needs
 
--- src/refusals.rt:296:27
 add-end-limits-2 : tie.Need-add-end-limits-2
 add-end-limits-2 c = search needs
 
--- src/refusals.rt:296:9
 end-limits-requires-2 : tie.Need-end-limits-requires-2
 end-limits-requires-2 c κs = search needs
 
--- src/refusals.rt:297:31
 add-end-limits-3 : tie.Need-add-end-limits-3
 add-end-limits-3 c = search needs
 
--- src/refusals.rt:297:9
 end-limits-requires-3 : tie.Need-end-limits-requires-3
 end-limits-requires-3 c κs = search needs
 
--- src/refusals.rt:288:1
 returns : tie.Need-returns
 unfolding relLimits
 returns c = rw (c .end-limits3 .ensures, c .before .end-limits2 .ensures, c .before .before .end-limits .ensures, c .before .before .before .vec-within .ensures, c .before .before .before .before .double-within2 .ensures, c .before .before .before .before .before .double-within .ensures)

@@ -1,45 +1,33 @@
+-- `sheet::refusals::rel_names` meets its contract. Assumes nothing.
 use Rattle.sheet.specs.Refusals.{relNames}
 use borrow.Author.Needs.{needs}
 use Rattle.sheet.proofs.refusals.rel_names.Statement.{statement}
 use Rattle.sheet.proofs.refusals.rel_names.Tie as tie
-use Rattle.sheet.proofs.refusals.rel_names.Reads as reads
-use Rattle.sheet.proofs.refusals.rel_names.Lts as lts
-use Rattle.sheet.proofs.refusals.end_names.Reads as end-names-reads
-use Rattle.sheet.proofs.refusals.uses_plane.Reads as uses-plane-reads
 
--- src/refusals.rt:233:29
 add-end-names : tie.Need-add-end-names
 add-end-names c = search needs
 
--- src/refusals.rt:233:9
 end-names-requires : tie.Need-end-names-requires
 end-names-requires c κs = search needs
 
--- src/refusals.rt:234:29
 add-end-names-2 : tie.Need-add-end-names-2
 add-end-names-2 c = search needs
 
--- src/refusals.rt:234:9
 end-names-requires-2 : tie.Need-end-names-requires-2
 end-names-requires-2 c κs = search needs
 
--- src/refusals.rt:235:31
 shared-slice-read-uses-plane : tie.Need-shared-slice-read-uses-plane
 shared-slice-read-uses-plane c = search needs
 
--- src/refusals.rt:235:9
 uses-plane-requires : tie.Need-uses-plane-requires
 uses-plane-requires c κs = search needs
 
--- src/refusals.rt:236:33
 add-end-names-3 : tie.Need-add-end-names-3
 add-end-names-3 c = search needs
 
--- src/refusals.rt:236:9
 end-names-requires-3 : tie.Need-end-names-requires-3
 end-names-requires-3 c κs = search needs
 
--- src/refusals.rt:229:1
 returns : tie.Need-returns
 unfolding relNames
 returns c = rw (c .end-names3 .ensures, c .before .uses-plane .ensures, c .before .before .before .end-names2 .ensures, c .before .before .before .before .end-names .ensures)

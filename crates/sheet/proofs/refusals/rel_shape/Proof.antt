@@ -1,3 +1,4 @@
+-- `sheet::refusals::rel_shape` meets its contract. Assumes nothing.
 use Rattle.sheet.specs.Refusals.{relShape}
 use borrow.Author.Needs.{needs}
 use Rattle.sheet.proofs.refusals.rel_shape.Statement.{statement}

@@ -1,3 +1,4 @@
+-- `sheet::refusals::sheet_fault` meets its contract. Assumes nothing.
 use mathlib.Core.Path.{sym, _∙_}
 use native.Mathlib.Omega.{arith}
 use Rattle.sheet.proofs.RefusalLaws.{header-passes, sheet-records, sheet-stops}

@@ -1,3 +1,4 @@
+-- `sheet::refusals::used_or_zero` meets its contract. Assumes nothing.
 use Rattle.sheet.specs.Refusals.{usedOrZero}
 use borrow.Author.Needs.{needs}
 use Rattle.sheet.proofs.refusals.used_or_zero.Statement.{statement}

@@ -1,32 +1,24 @@
+-- `sheet::refusals::vec_within` meets its contract. Assumes nothing.
 use Rattle.sheet.specs.Refusals.{withinV}
 use borrow.Author.Needs.{needs}
 use Rattle.sheet.proofs.refusals.vec_within.Statement.{statement}
 use Rattle.sheet.proofs.refusals.vec_within.Tie as tie
-use Rattle.sheet.proofs.refusals.vec_within.Reads as reads
-use Rattle.sheet.proofs.refusals.vec_within.Lts as lts
-use Rattle.sheet.proofs.refusals.double_within.Reads as double-within-reads
 
--- src/refusals.rt:258:9
 double-within-requires : tie.Need-double-within-requires
 double-within-requires c κs = search needs
 
--- src/refusals.rt:259:37
 add-double-within : tie.Need-add-double-within
 add-double-within c = search needs
 
--- src/refusals.rt:259:9
 double-within-requires-2 : tie.Need-double-within-requires-2
 double-within-requires-2 c κs = search needs
 
--- src/refusals.rt:260:37
 add-double-within-2 : tie.Need-add-double-within-2
 add-double-within-2 c = search needs
 
--- src/refusals.rt:260:9
 double-within-requires-3 : tie.Need-double-within-requires-3
 double-within-requires-3 c κs = search needs
 
--- src/refusals.rt:254:1
 returns : tie.Need-returns
 unfolding withinV
 returns c = rw (c .double-within3 .ensures, c .before .double-within2 .ensures, c .before .before .double-within .ensures)

@@ -1,3 +1,4 @@
+-- `sheet::refusals::zero_bytes` meets its contract. Assumes nothing.
 use mathlib.Core.Path.{_≡_, refl, _∙_}
 use Prim.Native.Nat.{_≤_, _-_}
 use Rattle.solver.specs.Record.{zeroBytes}
@@ -5,8 +6,6 @@ use native.Mathlib.Omega.{arith}
 use Rattle.sheet.proofs.RefusalLaws.{zero-bytes-more}
 use Rattle.sheet.proofs.refusals.zero_bytes.Statement.{statement}
 use Rattle.sheet.proofs.refusals.zero_bytes.Tie as tie
-use Rattle.sheet.proofs.refusals.zero_bytes.Reads as reads
-use Rattle.sheet.proofs.refusals.zero_bytes.Lts as lts
 
 abbrev Inv-loop : tie.InvT-loop
 Inv-loop s o n zero₀ i₀ zero i = (i ≤ n) × (zero ≡ zeroBytes s o i)
@@ -14,32 +13,25 @@ Inv-loop s o n zero₀ i₀ zero i = (i ≤ n) × (zero ≡ zeroBytes s o i)
 abbrev μ-loop : tie.MeasureT-loop
 μ-loop s o n zero₀ i₀ zero i = n - i
 
--- src/refusals.rt:41:5
 loop-holds : tie.Need-loop-holds Inv-loop μ-loop
 unfolding zeroBytes
 loop-holds c = (omega arith, refl)
 
--- src/refusals.rt:42:26
 add-zero : tie.Need-add-zero Inv-loop μ-loop
 add-zero c = omega arith
 
--- src/refusals.rt:42:24
 shared-slice-read-zero : tie.Need-shared-slice-read-zero Inv-loop μ-loop
 shared-slice-read-zero c = omega arith
 
--- src/refusals.rt:43:9
 add-i : tie.Need-add-i Inv-loop μ-loop
 add-i c = omega arith
 
--- src/refusals.rt:41:5
 loop-less : tie.Need-loop-less Inv-loop μ-loop
 loop-less c = omega arith
 
--- src/refusals.rt:41:5
 loop-again : tie.Need-loop-again Inv-loop μ-loop
 loop-again c = (omega arith, zero-bytes-more _ _ _ _ (c .before .before .loop .inv .1))
 
--- src/refusals.rt:35:1
 returns : tie.Need-returns Inv-loop μ-loop
 returns c = let e : c .before .loop .i ≡ c .before .before .args .n = omega arith in c .before .loop .inv .1 ∙ rw e
 
