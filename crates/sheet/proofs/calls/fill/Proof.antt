@@ -3,7 +3,6 @@ use native.Mathlib.Omega.{arith}
 use lib.ListN.{length-set}
 use Rattle.sheet.specs.Calls.{poseDoubles}
 use Rattle.sheet.proofs.CallLaws.{twelve}
-use borrow.Author.Needs.{needs}
 use Rattle.sheet.proofs.calls.fill.Statement.{statement}
 use Rattle.sheet.proofs.calls.fill.Tie as tie
 
