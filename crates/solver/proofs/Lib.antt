@@ -6,3 +6,4 @@ pub mod LmLaws
 pub mod DenseLaws
 pub mod SceneLaws
 pub mod SlopeLaws
+pub mod LayoutLaws

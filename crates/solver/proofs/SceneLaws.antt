@@ -100,7 +100,7 @@ drop-whole l n e = ap (λ (w : ℕ). drop w l) (sym e) ∙ drop-length l
 -- ---- the layout
 
 -- the list that goes on by whether a body moves
-abbrev next-layout : List Rel → ℕ → ℕ → List Body → Bool → List (Option ℕ)
+abbrev pub next-layout : List Rel → ℕ → ℕ → List Body → Bool → List (Option ℕ)
 next-layout rels i next bodies t = elim t [ true ↦ some next ∷ layoutFrom rels (suc i) (next + 6) bodies | false ↦ none ∷ layoutFrom rels (suc i) next bodies ]
 
 pub length-layout : (rels : List Rel) (i next : ℕ) (bodies : List Body) → length (layoutFrom rels i next bodies) ≡ length bodies

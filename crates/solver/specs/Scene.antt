@@ -2,19 +2,20 @@
 -- place from a sheet's bytes. s is the scratch at entry and t at exit. Definitions only.
 use Prim.Native.Nat.{ℕ, zero, suc, _+_, _-_, _*_, _≤_, _<_}
 use mathlib.Core.Path.{_≡_}
-use mathlib.Core.Bool.{cond}
+use mathlib.Core.Bool.{Bool, cond}
 use mathlib.Core.List.{List, [], _∷_, _++_, map}
 use mathlib.Core.Option.{Option, none, some}
-use lib.ListN.{length, getD, take}
+use lib.ListN.{length, getD, set, take}
 use lib.Dec.{eqb}
 use lib.Ieee.{Float, nan}
 use Rattle.vectors.specs.Vec.{Vec}
 use Rattle.solver.specs.Geometry.{Pose}
 use Rattle.solver.specs.Lm.{listOf, inverseWeight, slope, jacobian}
 use Rattle.solver.specs.Memory.{part, Kept}
-use Rattle.solver.specs.Model.{Body}
+use Rattle.solver.specs.Model.{Body, Rel}
 use Rattle.solver.specs.Record.{bodyAt, relAt, sceneIn}
 use Rattle.solver.specs.Solve.{Scene, layout, unknowns, three, poseAt, rowsAt, allRows, rowsOf, dragFactor, halfSize, bodyWeights}
+use Rattle.solver.specs.declared.scene.Unknowns.{Unknowns as UnknownsStruct}
 use Rattle.solver.specs.declared.scene.Scene.{Scene as SceneStruct}
 
 -- ---- the scene
@@ -114,3 +115,27 @@ pub record Slopes (sc : Scene) (s t : List Float) (j n rows x a : ℕ) : Type 0 
   pub holds : part t j (rows * n) ≡ jacobian (rowsOf sc) (part s x n) rows
   pub below : take j t ≡ take j s
   pub between : part t (j + rows * n) (a - (j + rows * n)) ≡ part s (j + rows * n) (a - (j + rows * n))
+
+-- ---- how the scene is made
+
+-- the relations at these places
+abbrev pub relsIn : List ℕ → ℕ → ℕ → List Rel
+relsIn sheet rels k = listOf (λ j. relAt sheet (rels + 264 * j)) k
+
+-- body i behind the unknowns so far, where it moves
+abbrev pub placeBody : UnknownsStruct → ℕ → Bool → UnknownsStruct
+placeBody l i moving = cond moving (record { n = l .n + 6; index = set (l .index) i (l .n) }) l
+
+-- the layout of the m bodies and k relations at these places
+pub record LaidOut (sheet : List ℕ) (bodies m rels k : ℕ) (l : UnknownsStruct) : Type 0 where
+  pub unknown-count : l .n ≡ unknowns (sceneIn sheet bodies m rels k)
+  pub index : (i : ℕ) → i < m → getD (layout (sceneIn sheet bodies m rels k)) i none ≡ firstUnknown (getD (l .index) i 0)
+
+-- the scene of the m bodies and k relations at these places
+pub record SceneMade (sheet : List ℕ) (bodies m rels k : ℕ) (c : SceneStruct) : Type 0 where
+  pub laid : Laid sheet c
+  pub scene : sceneOf sheet c ≡ sceneIn sheet bodies m rels k
+  pub bodies-at : c .bodies ≡ bodies
+  pub body-count : c .m ≡ m
+  pub rels-at : c .rels ≡ rels
+  pub rel-count : c .k ≡ k

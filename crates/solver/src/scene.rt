@@ -2,16 +2,20 @@
 // `specs/Scene.antt` has the definitions.
 
 ghost use mathlib.Core.Path.{_≡_};
-ghost use mathlib.Core.List.{map};
+ghost use mathlib.Core.List.{List, map};
 ghost use Prim.Native.Nat.{ℕ, _+_, _*_, _-_, _≤_, _<_};
 ghost use lib.ListN.{length, getD};
+ghost use lib.Ieee.{Float};
 ghost use Rattle.vectors.specs.Vec.{vec};
+ghost use Rattle.solver.specs.Geometry as geometry;
 ghost use Rattle.solver.specs.Model.{bodyNumber, bodyOf, lawOf, relOf, pose};
 ghost use Rattle.solver.specs.Memory.{part, Kept};
 ghost use Rattle.solver.specs.Lm as lm;
+ghost use Rattle.solver.specs.Record as format;
 ghost use Rattle.solver.specs.Rows as rows_spec;
 ghost use Rattle.solver.specs.Solve as solve;
 ghost use Rattle.solver.specs.Scene as spec;
+use crate::count::row_count;
 use crate::model::Body;
 use crate::model::Law;
 use crate::model::Place;
@@ -340,5 +344,134 @@ pub fn inverse_weights(sheet: &[u8], scene: Scene, s: &mut [f64], w: usize, drag
     let mut at = w;
     for i in 0..m {
         at = put_weights(sheet, scene, s, at, drag, i);
+    }
+}
+
+// Whether an end belongs to body i.
+fn is_body(place: Place, i: usize) -> bool
+    ensures { λ r. ⌜ r ≡ solve.isBody (bodyNumber place) i ⌝ }
+{
+    match place {
+        Place::Ground => false,
+        Place::Of(k) => k == i,
+    }
+}
+
+// Whether an end that the relation uses belongs to body i.
+fn names(rel: Rel, i: usize) -> bool
+    ensures { λ r. ⌜ r ≡ solve.names (relOf rel) i ⌝ }
+{
+    let law = rel.law;
+    let a = rel.a;
+    let b = rel.b;
+    let pa = a.body;
+    let pb = b.body;
+    if is_body(pa, i) {
+        return true;
+    }
+    if is_body(pb, i) {
+        return true;
+    }
+    is_body(plane_place(law), i)
+}
+
+fn named(sheet: &[u8], rels: usize, k: usize, i: usize) -> bool
+    requires { ⌜ rels + 264 * k ≤ length (now sheet) ⌝ }
+    ensures { λ r. ⌜ r ≡ solve.named (spec.relsIn (now (sheet .entry)) rels k) i ⌝ }
+{
+    for j in 0..k {
+        let rel = record::rel_at(sheet, rels + 264 * j);
+        if names(rel, i) {
+            return true;
+        }
+    }
+    false
+}
+
+// Whether body i, which stands at o, has unknowns.
+fn moves(sheet: &[u8], o: usize, rels: usize, k: usize, i: usize) -> bool
+    requires { ⌜ o + 136 ≤ length (now sheet) ⌝ }
+    requires { ⌜ rels + 264 * k ≤ length (now sheet) ⌝ }
+    ensures { λ r. ⌜ r ≡ solve.moves (spec.relsIn (now (sheet .entry)) rels k) i (format.bodyAt (now (sheet .entry)) o) ⌝ }
+{
+    let b = record::body_at(sheet, o);
+    if b.fixed {
+        return false;
+    }
+    named(sheet, rels, k, i)
+}
+
+// The number of unknowns so far, and each body's first.
+pub struct Unknowns {
+    pub n: usize,
+    pub index: [u16; 64],
+}
+
+// Body i placed behind the unknowns so far, where it moves.
+fn place_body(l: Unknowns, i: usize, moving: bool) -> Unknowns
+    requires { ⌜ i < 64 ⌝ }
+    requires { ⌜ l .n ≤ 6 * i ⌝ }
+    ensures { λ r. ⌜ r ≡ spec.placeBody l i moving ⌝ }
+{
+    if moving {
+        let n = l.n;
+        let mut index = l.index;
+        index[i] = n as u16;
+        return Unknowns { n: n + 6, index };
+    }
+    l
+}
+
+// `layout`: six unknowns to each body that moves, in the bodies' order.
+fn layout(sheet: &[u8], bodies: usize, m: usize, rels: usize, k: usize) -> Unknowns
+    requires { ⌜ m ≤ 64 ⌝ }
+    requires { ⌜ bodies + 136 * m ≤ length (now sheet) ⌝ }
+    requires { ⌜ rels + 264 * k ≤ length (now sheet) ⌝ }
+    ensures { λ r. ⌜ spec.LaidOut (now (sheet .entry)) bodies m rels k r ⌝ }
+{
+    let index = [0xFFFFu16; 64];
+    let mut l = Unknowns { n: 0, index };
+    for i in 0..m {
+        let moving = moves(sheet, bodies + 136 * i, rels, k, i);
+        let next = place_body(l, i, moving);
+        l = next;
+    }
+    l
+}
+
+// The number of rows of all relations.
+fn count_rows(sheet: &[u8], rels: usize, k: usize) -> usize
+    requires { ⌜ k ≤ 128 ⌝ }
+    requires { ⌜ rels + 264 * k ≤ length (now sheet) ⌝ }
+    ensures { λ r. ⌜ ((poses : List (geometry.Pose Float)) → length (solve.allRows poses (spec.relsIn (now (sheet .entry)) rels k)) ≡ r) ⌝ }
+{
+    let mut rows = 0;
+    for j in 0..k {
+        let rel = record::rel_at(sheet, rels + 264 * j);
+        rows = rows + row_count(rel);
+    }
+    rows
+}
+
+// The scene of the m bodies and k relations at these places of the sheet.
+pub fn scene_of(sheet: &[u8], bodies: usize, m: usize, rels: usize, k: usize) -> Scene
+    requires { ⌜ m ≤ 64 ⌝ }
+    requires { ⌜ k ≤ 128 ⌝ }
+    requires { ⌜ bodies + 136 * m ≤ length (now sheet) ⌝ }
+    requires { ⌜ rels + 264 * k ≤ length (now sheet) ⌝ }
+    ensures { λ r. ⌜ spec.SceneMade (now (sheet .entry)) bodies m rels k r ⌝ }
+{
+    let l = layout(sheet, bodies, m, rels, k);
+    let rows = count_rows(sheet, rels, k);
+    let n = l.n;
+    let index = l.index;
+    Scene {
+        m,
+        k,
+        n,
+        rows,
+        bodies,
+        rels,
+        index,
     }
 }
