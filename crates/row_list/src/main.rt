@@ -1,0 +1,98 @@
+// Replays the Rust's rows: each relation's count, seven rows and largest magnitude, at poses squared and not; and prints how many answers the list holds and how many of
+// them differ here. All bits are compared; all NaNs are the same. data/ has a copy of a list of oracle/lists, whose format oracle/FORMATS.md gives.
+
+use solver::record::double_at;
+use solver::record::rel_at;
+use solver::record::u64_at;
+use solver::rows::Rows;
+use solver::scene::rel_rows;
+
+// The next word; 0 where the list ends.
+fn word(fd: i32) -> u64 {
+    let mut s = [0u8; 8];
+    let got = io::read_full(fd, &mut s);
+    if got < 8 {
+        return 0;
+    }
+    u64_at(&s, 0)
+}
+
+// The next double; a NaN where the list ends.
+fn double(fd: i32) -> f64 {
+    let mut s = [0u8; 8];
+    let got = io::read_full(fd, &mut s);
+    if got < 8 {
+        return 0.0 / 0.0;
+    }
+    double_at(&s, 0)
+}
+
+// Whether x has the bits n; all NaNs are the same.
+fn same(x: f64, n: u64) -> bool {
+    if x != x {
+        n % 0x8000_0000_0000_0000 > 0x7FF0_0000_0000_0000
+    } else {
+        f64::to_bits(x) == n
+    }
+}
+
+// The poses of bodies 0, 1 and 2.
+fn poses(fd: i32) -> [f64; 36] {
+    let mut q = [0.0; 36];
+    for i in 0usize..36 {
+        q[i] = double(fd);
+    }
+    q
+}
+
+// The count, the seven rows and their largest magnitude are the list's next.
+fn right(fd: i32, r: Rows) -> bool {
+    let n = r.n as u64;
+    let count = word(fd) == n;
+    let a = same(r.r0, word(fd));
+    let b = same(r.r1, word(fd));
+    let c = same(r.r2, word(fd));
+    let d = same(r.r3, word(fd));
+    let e = same(r.r4, word(fd));
+    let f = same(r.r5, word(fd));
+    let g = same(r.r6, word(fd));
+    let most = same(r.max_abs(), word(fd));
+    count & (a & (b & (c & (d & (e & (f & (g & most)))))))
+}
+
+// One relation: its 264 bytes, the poses, the answers.
+fn relation(fd: i32) -> bool {
+    let mut s = [0u8; 264];
+    io::read_full(fd, &mut s);
+    let q = poses(fd);
+    let rel = rel_at(&s, 0);
+    right(fd, rel_rows(&q, 0, 3, rel))
+}
+
+fn replay(fd: i32) {
+    let n = word(fd);
+    let mut wrong = 0u64;
+    let mut i = 0u64;
+    while i < n {
+        if !relation(fd) {
+            wrong += 1;
+        }
+        i += 1;
+    }
+    io::write_all(1, b"rows of relations ");
+    io::print_decimal(1, n);
+    io::write_all(1, b" wrong ");
+    io::print_decimal(1, wrong);
+    io::write_all(1, b"\n");
+}
+
+fn main() {
+    let path = b"rows.bin";
+    let fd = os::open_read(path);
+    if fd < 0 {
+        os::fail(path);
+        return;
+    }
+    replay(fd);
+    libc::close(fd);
+}
