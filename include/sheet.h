@@ -10,16 +10,19 @@
  *    5  a byte is outside its values, or a field that is not used is not 0
  *    6  an end names no body
  *    7  a double is a NaN or over its limit
- *   10  the output slice is too short
+ *    8  the drag is neither 65535, for none, nor the number of a body
+ *    9  the scratch is too short
+ *   10  an output slice is too short
  *   11  judging: the law does not suit the two ends
  *   12  judging: a tangent's ends are not round, or not round with a plane
  *   13  the sheet has no such relation
  *
- * Tests 1 to 4 come first, then each record in order by 5, 6 and 7, then 13, 11, 12, 10.
+ * Tests 1 to 4 come first, then each record in order by 5, 6 and 7, then 13, 8, 11, 12, 10, 9. A test of what a call does not
+ * take is skipped.
  *
- * Nothing is kept after a call, and no memory is taken: a call reads the sheet and writes only where its output pointers
- * point. No pointer may be null, no output may overlap the sheet or another output, and doubles stand at addresses that are
- * multiples of 8. Lengths are counted in elements: bytes for a sheet, doubles for a slice of doubles.
+ * Nothing is kept after a call, and no memory is taken: a call reads the sheet and writes only where its output and scratch
+ * pointers point. No pointer may be null, no output or scratch may overlap the sheet or another of them, and doubles stand at
+ * addresses that are multiples of 8. Lengths are counted in elements: bytes for a sheet, doubles for a slice of doubles.
  */
 #ifndef SHEET_H
 #define SHEET_H
@@ -40,6 +43,38 @@ uint32_t sheet_joint_reading(const uint8_t *sheet, size_t sheet_len, uint16_t re
 /* The motion of end b's body that makes the relation hold by itself: its first 12 doubles are nine turning entries by row
  * and the position. motion_len is at least 12; what stands after the twelfth double is kept. */
 uint32_t sheet_snap(const uint8_t *sheet, size_t sheet_len, uint16_t relation, double *motion, size_t motion_len);
+
+/* Where each body stands, how far off each relation is, and whether all of them hold. m and k are the sheet's numbers of
+ * bodies and relations.
+ *
+ *   drag       the number of the body that was moved by hand, which stays as near where it was put as it may; 65535 for none
+ *   scratch    at least R*n + 2*R*R + 8*R + 8*n + 32*m doubles, where R is the number of rows of all relations, at most 7*k,
+ *              and n is six times the number of unfixed bodies that relations name, at most 6*m. What stands in it at entry
+ *              has no say in the answer, and an accepted call leaves any doubles in it.
+ *   poses      at least 12*m doubles: for each body nine turning entries by row, then the position
+ *   frames     at least 12*m doubles: for each body its frame at that pose: origin, x, y, z
+ *   errors     at least k doubles: for each relation the largest magnitude among its rows at the poses, 0 if it has no rows
+ *   converged  one byte: 1 if every error is at most 1e-9, else 0
+ *
+ * Another drag is refused by 8, short poses, frames or errors by 10, and short scratch by 9. What stands in poses, frames and
+ * errors past these lengths is kept. */
+uint32_t sheet_solve(const uint8_t *sheet, size_t sheet_len, uint16_t drag, double *scratch, size_t scratch_len, double *poses,
+                     size_t poses_len, double *frames, size_t frames_len, double *errors, size_t errors_len, uint8_t *converged);
+
+/* What freedom each body has with the others held still at the sheet's frames, and how much freedom the whole assembly has.
+ * m and k are the sheet's numbers of bodies and relations.
+ *
+ *   scratch    at least R*n + 2*n*n + 8*R + 8*n + 32*m doubles, where R is the number of rows of all relations, at most 7*k,
+ *              and n is six times the number of unfixed bodies that relations name, at most 6*m. What stands in it at entry
+ *              has no say in the answer, and an accepted call leaves any doubles in it.
+ *   freedoms   at least 29*m doubles: for each body how many ways it may slide and about how many lines it may turn, each 0
+ *              to 3; then three slides, each a direction; then three turns, each an axis and a point of it. What is not used
+ *              is 0, and a fixed body's 29 doubles are all 0.
+ *   free       the whole assembly's freedom, all bodies moving together; it is not the sum over the bodies
+ *
+ * Short freedoms are refused by 10, and short scratch by 9. What stands in freedoms past 29*m is kept. */
+uint32_t sheet_dof(const uint8_t *sheet, size_t sheet_len, double *scratch, size_t scratch_len, double *freedoms,
+                   size_t freedoms_len, uint32_t *free);
 
 #ifdef __cplusplus
 }

@@ -36,7 +36,7 @@ step covered 700
 step build/oracle arcs 2000000
 step build/oracle sheet 2 400
 if [ -x ../target/bin/report ]; then
-    step build/oracle run-report ../target/bin/report 3 300
+    step build/oracle run-report ../tools/report.sh 3 300
 else
     echo "report: no target/bin/report, nothing compared"
 fi

@@ -1,4 +1,4 @@
-//! Time per call of the linked arcs and root beside Rust's own on the same arguments, in one run. Not a test.
+//! Time per call of the linked arcs, root, `solve` and `dof` beside Rust's own on the same arguments, in one run. Not a test.
 
 #[cfg(linked)]
 pub fn run() -> bool {
@@ -29,6 +29,50 @@ pub fn run() -> bool {
         println!("{ours:16} {a:6.1} ns   {theirs:8} {b:6.1} ns   ratio {:.2}", a / b);
     }
     true
+}
+
+/// `solve` and `dof` on each sheet, both sides from its bytes on.
+#[cfg(all(sheet_solve, sheet_dof))]
+pub fn sheets(files: &[&str]) -> bool {
+    use crate::answer::Call;
+    let lots = 2_000_000;
+    let mut scratch = vec![f64::NAN; lots];
+    for file in files {
+        let bytes = std::fs::read(file).unwrap();
+        let m = u16::from_le_bytes([bytes[2], bytes[3]]) as usize;
+        let k = u16::from_le_bytes([bytes[4], bytes[5]]) as usize;
+        let calls = [
+            ("solve", Call::Solve { drag: crate::sheet::GROUND, scratch: lots, poses: 12 * m, frames: 12 * m, errors: k }),
+            ("dof", Call::Dof { scratch: lots, freedoms: 29 * m }),
+        ];
+        for (name, call) in calls {
+            let theirs = milliseconds(&mut || {
+                std::hint::black_box(crate::plain::answer(&bytes, call)).ok();
+            });
+            let ours = milliseconds(&mut || crate::compare::run(&bytes, call, &mut scratch));
+            println!("{name:6} {m:2} bodies, {k:3} relations: {ours:9.3} ms   Rust {theirs:9.3} ms   ratio {:.2}", ours / theirs);
+        }
+    }
+    true
+}
+#[cfg(not(all(sheet_solve, sheet_dof)))]
+pub fn sheets(_: &[&str]) -> bool {
+    println!("bench: no `solve` and `dof` in target/staticlib/libsheet.a");
+    true
+}
+
+/// The best of runs that take about a second together, five at least.
+#[cfg(all(sheet_solve, sheet_dof))]
+fn milliseconds(f: &mut dyn FnMut()) -> f64 {
+    let begin = std::time::Instant::now();
+    let (mut best, mut runs) = (f64::INFINITY, 0);
+    while runs < 5 || begin.elapsed().as_secs_f64() < 1.0 {
+        let start = std::time::Instant::now();
+        f();
+        best = best.min(start.elapsed().as_secs_f64() * 1e3);
+        runs += 1;
+    }
+    best
 }
 
 /// The best of nine runs over all arguments.

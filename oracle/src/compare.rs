@@ -159,6 +159,26 @@ mod port {
         ) -> u32;
     }
 
+    /// `solve` or `dof` with this scratch; the answer is dropped.
+    #[cfg(all(sheet_solve, sheet_dof))]
+    pub fn run(bytes: &[u8], call: Call, scratch: &mut [f64]) {
+        let (sheet, len) = (bytes.as_ptr(), bytes.len());
+        match call {
+            Call::Solve { drag, poses, frames, errors, .. } => {
+                let (mut p, mut f, mut e, mut flag) = (vec![0.0; poses], vec![0.0; frames], vec![0.0; errors], 0u8);
+                let (s, n) = (scratch.as_mut_ptr(), scratch.len());
+                let number = unsafe { sheet_solve(sheet, len, drag, s, n, p.as_mut_ptr(), poses, f.as_mut_ptr(), frames, e.as_mut_ptr(), errors, &mut flag) };
+                assert_eq!(number, 0);
+            }
+            Call::Dof { freedoms, .. } => {
+                let (mut d, mut free) = (vec![0.0; freedoms], 0u32);
+                let number = unsafe { sheet_dof(sheet, len, scratch.as_mut_ptr(), scratch.len(), d.as_mut_ptr(), freedoms, &mut free) };
+                assert_eq!(number, 0);
+            }
+            _ => {}
+        }
+    }
+
     /// What stands in lent memory before a call: odd numbers, and beyond the lent length a guard.
     const GUARD: usize = 5;
     fn filler(i: usize) -> f64 {
@@ -246,6 +266,10 @@ mod port {
         })
     }
 }
+
+/// The library's `solve` or `dof` alone, for its time.
+#[cfg(all(sheet_solve, sheet_dof))]
+pub use port::run;
 
 /// The sheet library against the Rust: answers, refusals, and what must stay as it was.
 #[cfg(sheet)]

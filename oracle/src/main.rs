@@ -33,6 +33,7 @@ oracle cover SEED N           all calls on N valid and N damaged sheets and the 
 oracle examples               document 01's own examples, asked of the oracle
 oracle arcs N                 the linked root, sine, cosine and arctangent on about 4N arguments
 oracle bench                  time per call of the linked arcs and root beside Rust's own
+oracle bench FILE..           time of the linked `solve` and `dof` on these sheets beside the Rust's
 oracle sheet SEED N           the linked sheet library against the Rust on N valid and N damaged sheets
 oracle run-report PROGRAM SEED N    the program report against the Rust
 oracle lists DIR [SCALE]      the frozen lists (FORMATS.md); SCALE above 1 makes longer ones";
@@ -56,6 +57,7 @@ fn main() {
         ["sheet", seed, n] => compare::sheet(number(seed) as u64, number(n)),
         ["run-report", program, seed, n] => compare::report(program, number(seed) as u64, number(n)),
         ["bench"] => bench::run(),
+        ["bench", ref files @ ..] => bench::sheets(files),
         ["examples"] => examples::run(),
         ["lists", dir] => lists::write(dir, 1),
         ["lists", dir, scale] => lists::write(dir, number(scale)),

@@ -12,6 +12,9 @@ const FIELD: u64 = 0x10_0000_0000_0000;
 
 const SIGN: u64 = 0x8000_0000_0000_0000;
 
+// the bits of 1
+const ONE: u64 = 0x3FF0_0000_0000_0000;
+
 // A number under the root: m * 2^52 * 4^k
 struct Radicand {
     m: u64,
@@ -70,17 +73,31 @@ fn whole_root(m: u64) -> u64
     if q < rem { q + 1 } else { q }
 }
 
-// A number near to the root of x in the place of its digits, by Newton's iteration for 1 / √x in doubles, from the bits b of x. How near it is decides only the speed.
-fn estimate(x: f64, b: u64) -> u64
-    ensures { λ r. ⌜ (2 ^ 52 ≤ r) × (r < 2 ^ 53) ⌝ }
-{
+// A double near to the root of x, from the bits b of x. Near 1 the root is 1 and half of what x is over, below 1 a little less, so that it stays below; else by Newton's
+// iteration for 1 / √x. How near it is decides only the speed.
+fn guess(x: f64, b: u64) -> f64 {
+    if x > 0.99999999 {
+        if x < 1.0 {
+            return 0.5 * x + 0.49999999999999994;
+        }
+        if x < 1.00000001 {
+            return 0.5 * x + 0.5;
+        }
+    }
     let half = 0.5 * x;
     let y = f64::from_bits(0x5fe6_eb50_c7b5_37a9 - b % SIGN / 2);
     let y = y * (1.5 - half * y * y);
     let y = y * (1.5 - half * y * y);
     let y = y * (1.5 - half * y * y);
     let s = x * y;
-    let r = s + 0.5 * y * (x - s * s);
+    s + 0.5 * y * (x - s * s)
+}
+
+// The guess in the place of the root's digits.
+fn estimate(x: f64, b: u64) -> u64
+    ensures { λ r. ⌜ (2 ^ 52 ≤ r) × (r < 2 ^ 53) ⌝ }
+{
+    let r = guess(x, b);
     if r > 0.0 {
         FIELD + f64::to_bits(r) % FIELD
     } else {
@@ -148,13 +165,24 @@ fn positive_root(x: f64) -> f64
     f64::from_bits(n.k * FIELD + q)
 }
 
+// The same, with 1, the square of most lengths, told by its bits.
+fn unit_or_root(x: f64) -> f64
+    requires { ⌜ T (positive x) ⌝ }
+    ensures { λ r. ⌜ CorrectRoot x r ⌝ }
+{
+    if f64::to_bits(x) == ONE {
+        return 1.0;
+    }
+    positive_root(x)
+}
+
 // The double nearest to the square root of x: a zero gives itself, +infinity itself, a NaN and what is below 0 a NaN.
 #[no_mangle]
 pub extern "C" fn root(x: f64) -> f64
     ensures { λ r. ⌜ CorrectRoot x r ⌝ }
 {
     if x > 0.0 {
-        if x == 1.0 / 0.0 { x } else { positive_root(x) }
+        if x == 1.0 / 0.0 { x } else { unit_or_root(x) }
     } else {
         if x == 0.0 { x } else { 0.0 / 0.0 }
     }

@@ -77,7 +77,7 @@ counted s h =
 -- ---- the scene's counts are R and n
 
 module _ (s : List ℕ) (c : SceneStruct) (made : SceneMade s 24 (bodiesOf s) (24 + 136 * bodiesOf s) (relationsOf s) c) where
-  scene-is : sceneOf s c ≡ sceneAt s
+  pub scene-is : sceneOf s c ≡ sceneAt s
   scene-is = made .scene ∙ ap (λ (w : ℕ). sceneIn s 24 (bodiesOf s) w (relationsOf s)) (sym (add-zero (24 + 136 * bodiesOf s)))
 
   pub unknown-count : c .n ≡ unknowns (sceneAt s)

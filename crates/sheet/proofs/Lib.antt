@@ -2,3 +2,8 @@ pub mod RefusalLaws
 pub mod FieldLaws
 pub mod CallLaws
 pub mod FigureLaws
+pub mod LimitLaws
+pub mod LentLaws
+pub mod SolvingLaws
+pub mod FreedomLaws
+pub mod NumberLaws

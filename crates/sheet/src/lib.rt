@@ -2,4 +2,7 @@
 
 pub mod calls;
 pub mod figures;
+pub mod freedoms;
+pub mod lent;
 pub mod refusals;
+pub mod solving;

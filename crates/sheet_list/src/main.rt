@@ -1,12 +1,23 @@
-// Replays the Rust's answers to judging, joint readings and snapping, refusals included, and prints how many answers each list holds and how many of them differ here.
-// All bits are compared; all NaNs are the same. data/ has copies of lists of oracle/lists, whose formats oracle/FORMATS.md gives.
+// Replays the Rust's answers to the five calls, refusals included, and prints how many answers each list holds and how many of them differ here.
+// All bits are compared; all NaNs are the same. One scratch serves all calls and is never cleared. data/ has copies of lists of oracle/lists, whose formats oracle/FORMATS.md
+// gives.
+mod solving;
+mod words;
 
 ghost use Prim.Native.Nat.{_≤_};
 ghost use lib.ListN.{length};
 use sheet::calls::sheet_joint_reading;
 use sheet::calls::sheet_judge;
 use sheet::calls::sheet_snap;
+use solving::Call;
+use solving::dof_right;
+use solving::solve_right;
 use std::num::wrapping_add_u64;
+use words::BEFORE;
+use words::BEFORE_BITS;
+use words::holds;
+use words::same;
+use words::word;
 
 struct Tally {
     answers: u64,
@@ -14,32 +25,9 @@ struct Tally {
 }
 
 enum List {
-    Refused,
+    Sheets,
     Fields,
     Relations,
-}
-
-// What stands in lent memory before a call, and its bits.
-const BEFORE: f64 = 2.5;
-
-const BEFORE_BITS: u64 = 0x4004_0000_0000_0000;
-
-// The next word; 0 where the list ends.
-fn word(fd: i32) -> u64 {
-    let mut s = [0u8; 8];
-    let got = io::read_full(fd, &mut s);
-    if got < 8 {
-        return 0;
-    }
-    solver::record::u64_at(&s, 0)
-}
-
-fn skip(fd: i32, n: u64) {
-    let mut i = 0u64;
-    while i < n {
-        word(fd);
-        i += 1;
-    }
 }
 
 // Reads n bytes, unless the list ends before them.
@@ -47,15 +35,6 @@ fn filled(fd: i32, s: &mut [u8], n: usize) -> bool
     requires { ⌜ n ≤ length (now s) ⌝ }
 {
     io::read_full(fd, &mut s[0..n]) == n
-}
-
-// Whether x has the bits n; all NaNs are the same.
-fn same(x: f64, n: u64) -> bool {
-    if x != x {
-        n % 0x8000_0000_0000_0000 > 0x7FF0_0000_0000_0000
-    } else {
-        f64::to_bits(x) == n
-    }
 }
 
 fn judge_right(s: &[u8], relation: u16, want: u64) -> bool {
@@ -79,106 +58,90 @@ fn reading_right(fd: i32, s: &[u8], relation: u16, want: u64) -> bool {
     same(offset, a) && same(angle, b)
 }
 
-// The first 12 doubles are the list's next.
-fn moved(fd: i32, d: &[f64; 40]) -> bool {
-    let mut right = true;
-    let mut i = 0usize;
-    while i < 12 {
-        let n = word(fd);
-        right = same(d[i], n) & right;
-        i += 1;
-    }
-    right
-}
-
-// The doubles from `from` on are as before.
-fn kept(d: &[f64; 40], from: usize) -> bool {
-    let mut right = true;
-    let mut i = from;
-    while i < 40 {
-        right = same(d[i], BEFORE_BITS) & right;
-        i += 1;
-    }
-    right
-}
-
-// n doubles are lent.
-fn snap_right(fd: i32, s: &[u8], relation: u16, n: usize, want: u64) -> bool
-    requires { ⌜ n ≤ 40 ⌝ }
+// The first n doubles are lent. On acceptance 12 of them are the list's next; on refusal all are as before.
+fn snap_lent(fd: i32, s: &[u8], relation: u16, d: &mut [f64], n: usize, want: u64) -> bool
+    requires { ⌜ n ≤ length (now d) ⌝ }
 {
-    let mut d = [BEFORE; 40];
     let number = sheet_snap(s, relation, &mut d[0..n]) as u64;
     if number != want {
         return false;
     }
-    if number != 0 {
-        return kept(&d, 0);
-    }
-    moved(fd, &d) && kept(&d, 12)
+    holds(fd, d, if number == 0 { 12 } else { 0 })
 }
 
-fn answered(fd: i32, s: &[u8], which: u64, relation: u64, motion: u64, want: u64) -> bool {
-    if relation > 0xFFFF {
-        return false;
-    }
-    let j = relation as u16;
-    if which == 0 {
-        return judge_right(s, j, want);
-    }
-    if which == 1 {
-        return reading_right(fd, s, j, want);
-    }
-    if motion > 40 {
-        return false;
-    }
-    snap_right(fd, s, j, motion as usize, want)
+fn snap_right(fd: i32, s: &[u8], relation: u16, n: usize, want: u64) -> bool
+    requires { ⌜ n ≤ 40 ⌝ }
+{
+    let mut d = [BEFORE; 40];
+    snap_lent(fd, s, relation, &mut d, n, want)
 }
 
-// One call of a sheet; those of `solve` and `dof` are passed over.
-fn call(fd: i32, s: &[u8]) -> Tally {
+// Judging, the joint's reading or snapping.
+fn relation_right(fd: i32, s: &[u8], c: Call) -> bool {
+    if c.number > 0xFFFF {
+        return false;
+    }
+    let j = c.number as u16;
+    if c.which == 0 {
+        return judge_right(s, j, c.want);
+    }
+    if c.which == 1 {
+        return reading_right(fd, s, j, c.want);
+    }
+    if c.first > 40 {
+        return false;
+    }
+    snap_right(fd, s, j, c.first as usize, c.want)
+}
+
+// Whether a call gives the list's answer.
+fn right(fd: i32, s: &[u8], scratch: &mut [f64], c: Call) -> bool {
+    if c.which == 3 {
+        return solve_right(fd, s, scratch, c);
+    }
+    if c.which == 4 {
+        return dof_right(fd, s, scratch, c);
+    }
+    relation_right(fd, s, c)
+}
+
+fn next_call(fd: i32) -> Call {
     let which = word(fd);
-    let relation = word(fd);
+    let number = word(fd);
+    let scratch = word(fd);
+    let first = word(fd);
+    let second = word(fd);
+    let third = word(fd);
     word(fd);
-    let motion = word(fd);
-    word(fd);
-    word(fd);
-    let count = word(fd);
-    if which > 2 {
-        skip(fd, count);
-        return Tally {
-            answers: 0,
-            wrong: 0,
-        };
-    }
     let want = word(fd);
-    if answered(fd, s, which, relation, motion, want) {
-        return Tally {
-            answers: 1,
-            wrong: 0,
-        };
-    }
-    Tally {
-        answers: 1,
-        wrong: 1,
+    Call {
+        which,
+        number,
+        scratch,
+        first,
+        second,
+        third,
+        want,
     }
 }
 
-fn calls(fd: i32, s: &[u8]) -> Tally {
+// The calls of a sheet.
+fn calls(fd: i32, s: &[u8], scratch: &mut [f64]) -> Tally {
     let n = word(fd);
-    let mut answers = 0u64;
     let mut wrong = 0u64;
     let mut i = 0u64;
     while i < n {
-        let t = call(fd, s);
-        answers = wrapping_add_u64(answers, t.answers);
-        wrong = wrapping_add_u64(wrong, t.wrong);
+        let c = next_call(fd);
+        if !right(fd, s, scratch, c) {
+            wrong = wrapping_add_u64(wrong, 1);
+        }
         i += 1;
     }
-    Tally { answers, wrong }
+    Tally { answers: n, wrong }
 }
 
-// A sheet of at most 4,096 bytes, and its calls.
-fn refused(fd: i32) -> Tally {
+// A sheet of at most 4,088 bytes, and its calls.
+fn sheet_calls(fd: i32, scratch: &mut [f64]) -> Tally {
     let mut s = [0u8; 4096];
     let bytes = word(fd);
     if bytes > 4088 {
@@ -189,7 +152,7 @@ fn refused(fd: i32) -> Tally {
     }
     let n = bytes as usize;
     filled(fd, &mut s, (n + 7) / 8 * 8);
-    calls(fd, &s[0..n])
+    calls(fd, &s[0..n], scratch)
 }
 
 fn judge_changed(s: &[u8; 424], want: u64) -> bool {
@@ -260,21 +223,21 @@ fn relation(fd: i32) -> Tally {
     }
 }
 
-fn record(fd: i32, k: List) -> Tally {
+fn record(fd: i32, k: List, scratch: &mut [f64]) -> Tally {
     match k {
-        List::Refused => refused(fd),
+        List::Sheets => sheet_calls(fd, scratch),
         List::Fields => fields(fd),
         List::Relations => relation(fd),
     }
 }
 
-fn replay(fd: i32, k: List) -> Tally {
+fn replay(fd: i32, k: List, scratch: &mut [f64]) -> Tally {
     let n = word(fd);
     let mut answers = 0u64;
     let mut wrong = 0u64;
     let mut i = 0u64;
     while i < n {
-        let t = record(fd, k);
+        let t = record(fd, k, scratch);
         answers = wrapping_add_u64(answers, t.answers);
         wrong = wrapping_add_u64(wrong, t.wrong);
         i += 1;
@@ -291,19 +254,21 @@ fn say(name: &[u8], t: Tally) {
     io::write_all(1, b"\n");
 }
 
-fn replay_file(path: &[u8], k: List) {
+fn replay_file(path: &[u8], k: List, scratch: &mut [f64]) {
     let fd = os::open_read(path);
     if fd < 0 {
         os::fail(path);
         return;
     }
-    let t = replay(fd, k);
+    let t = replay(fd, k, scratch);
     libc::close(fd);
     say(path, t);
 }
 
 fn main() {
-    replay_file(b"sheets_refused.bin", List::Refused);
-    replay_file(b"sheets_fields.bin", List::Fields);
-    replay_file(b"relation_calls.bin", List::Relations);
+    let mut scratch = [0.0 / 0.0; 8192];
+    replay_file(b"sheets_refused.bin", List::Sheets, &mut scratch);
+    replay_file(b"sheets_fields.bin", List::Fields, &mut scratch);
+    replay_file(b"relation_calls.bin", List::Relations, &mut scratch);
+    replay_file(b"sheets_solved.bin", List::Sheets, &mut scratch);
 }

@@ -182,25 +182,6 @@ columns-start sc s j n rows x a = record { size = refl; entries = λ i d h l. ab
 pub columns-part : (sc : Scene) (s t : List Float) (j n rows x a c o : ℕ) → j + rows * n ≤ o → o + n ≤ a → Columns sc s t j n rows x a c → part t o n ≡ part s o n
 columns-part sc s t j n rows x a c o h l g = part-same s t o n (g .size) (λ i m. g .between (o + i) (omega arith) (omega arith))
 
-pub columns-step : (sc : Scene) (s t u : List Float) (j n rows x a c : ℕ) → c < n → j + rows * n ≤ x → x + n ≤ a → Columns sc s t j n rows x a c → SlopeColumn sc t u j n rows x a c
-    → Columns sc s u j n rows x a (c + 1)
-columns-step sc s t u j n rows x a c h l m g y =
-    record {
-      size = y .size ∙ g .size;
-      entries = entries;
-      below = λ q k. y .below q k ∙ g .below q k;
-      between = λ q k w. y .between q k w ∙ g .between q k w;
-    }
-  where
-    entries : (i d : ℕ) → i < rows → d < c + 1 → getD u (j + (i * n + d)) nan ≡ slope (rowsOf sc) (part s x n) i d
-    entries i d k w =
-        elim (eq-or-lt-of-le (le-of-suc-le-suc (rw add-one at w))) [
-          | inl e ↦
-              ap (λ (v : ℕ). getD u (j + (i * n + v)) nan) e ∙ y .entries i k ∙ ap (λ (v : List Float). slope (rowsOf sc) v i c) (columns-part sc s t j n rows x a c x l m g)
-              ∙ ap (slope (rowsOf sc) (part s x n) i) (sym e)
-          | inr e ↦ y .others i d k (omega arith) (λ q. absurd (omega arith)) ∙ g .entries i d k e
-        ]
-
 pub columns-end : (sc : Scene) (s t : List Float) (j n rows x a c : ℕ) → c ≡ n → j + rows * n ≤ x → x + n ≤ length s → a ≤ length s → x + n ≤ a → Columns sc s t j n rows x a c
     → Slopes sc s t j n rows x a
 unfolding jacobian

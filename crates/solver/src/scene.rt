@@ -49,7 +49,7 @@ fn vec_in(s: &[f64], o: usize) -> Vec3
     }
 }
 
-fn put_vec(s: &mut [f64], o: usize, v: Vec3)
+pub fn put_vec(s: &mut [f64], o: usize, v: Vec3)
     requires { ⌜ o + 3 ≤ length (now s) ⌝ }
     ensures { λ _. ⌜ spec.Put (now (s .entry)) (now (s .exit)) o 3 (spec.vecDoubles (vec v)) ⌝ }
 {
@@ -89,7 +89,7 @@ pub fn put_pose(s: &mut [f64], o: usize, q: Pose)
 }
 
 // Turned by w about the body's centre, then moved by t.
-fn moved_pose(b: Body, t: Vec3, w: Vec3) -> Pose
+pub fn moved_pose(b: Body, t: Vec3, w: Vec3) -> Pose
     ensures { λ q. ⌜ pose q ≡ solve.movedPose (bodyOf b) (vec t) (vec w) ⌝ }
 {
     let f = b.frame;
@@ -119,7 +119,7 @@ fn body_pose(s: &[f64], x: usize, n: usize, b: Body, first: u16) -> Pose
 }
 
 // Body i's pose, to place o.
-fn put_body(sheet: &[u8], scene: Scene, s: &mut [f64], x: usize, o: usize, i: usize)
+pub fn put_body(sheet: &[u8], scene: Scene, s: &mut [f64], x: usize, o: usize, i: usize)
     requires { ⌜ spec.Laid (now sheet) scene ⌝ }
     requires { ⌜ i < scene .m ⌝ }
     requires { ⌜ x + scene .n ≤ length (now s) ⌝ }
@@ -207,7 +207,7 @@ pub fn rel_rows(s: &[f64], p: usize, m: usize, rel: Rel) -> Rows
 }
 
 // The rows to the places from `at` on; the place behind them.
-fn put_rows(s: &mut [f64], at: usize, rows: Rows) -> usize
+pub fn put_rows(s: &mut [f64], at: usize, rows: Rows) -> usize
     requires { ⌜ rows .n ≤ 7 ⌝ }
     requires { ⌜ at + rows .n ≤ length (now s) ⌝ }
     ensures { λ r. ⌜ spec.PutNext (now (s .entry)) (now (s .exit)) at r (rows .n) (rows_spec.rowsOf rows) ⌝ }
@@ -275,7 +275,7 @@ fn inverse_weight(w: f64) -> f64
 }
 
 // Half the size, at least 1.
-fn half_size(size: f64) -> f64
+pub fn half_size(size: f64) -> f64
     ensures { λ r. ⌜ r ≡ solve.halfSize size ⌝ }
 {
     numbers::max(size * 0.5, 1.0)
@@ -358,7 +358,7 @@ fn is_body(place: Place, i: usize) -> bool
 }
 
 // Whether an end that the relation uses belongs to body i.
-fn names(rel: Rel, i: usize) -> bool
+pub fn names(rel: Rel, i: usize) -> bool
     ensures { λ r. ⌜ r ≡ solve.names (relOf rel) i ⌝ }
 {
     let law = rel.law;

@@ -80,7 +80,7 @@ fn diag(m: &[f64], n: usize) -> f64
 }
 
 // Whether what is off the diagonal is too small to count.
-fn settled(m: &[f64], n: usize) -> bool
+pub fn settled(m: &[f64], n: usize) -> bool
     requires { ⌜ length (now m) ≡ n * n ⌝ }
     ensures { λ r. ⌜ r ≡ spec.settled (now (m .entry)) n ⌝ }
 {
@@ -121,7 +121,7 @@ fn turn_pair(l: &mut [f64], i: usize, j: usize, c: f64, s: f64)
 }
 
 // Turns columns p and q.
-fn turn_columns(l: &mut [f64], n: usize, p: usize, q: usize, c: f64, s: f64)
+pub fn turn_columns(l: &mut [f64], n: usize, p: usize, q: usize, c: f64, s: f64)
     requires { ⌜ length (now l) ≡ n * n ⌝ }
     requires { ⌜ p < n ⌝ }
     requires { ⌜ q < n ⌝ }
@@ -134,7 +134,7 @@ fn turn_columns(l: &mut [f64], n: usize, p: usize, q: usize, c: f64, s: f64)
 }
 
 // Turns rows p and q.
-fn turn_rows(l: &mut [f64], n: usize, p: usize, q: usize, c: f64, s: f64)
+pub fn turn_rows(l: &mut [f64], n: usize, p: usize, q: usize, c: f64, s: f64)
     requires { ⌜ length (now l) ≡ n * n ⌝ }
     requires { ⌜ p < n ⌝ }
     requires { ⌜ q < n ⌝ }

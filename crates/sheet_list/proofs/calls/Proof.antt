@@ -1,30 +1,31 @@
--- `sheet_list::calls` is safe and ends. Assumes nothing.
+-- `sheet_list::calls` is safe and ends: the measure is the number of calls that are left. Assumes nothing.
+use mathlib.Core.Path.{_≡_, refl}
 use Prim.Native.Nat.{_≤_, _-_}
 use native.Mathlib.Omega.{arith}
-use borrow.Author.Needs.{needs}
+use lib.ListN.{length}
 use Rattle.sheet_list.proofs.calls.Statement.{statement}
 use Rattle.sheet_list.proofs.calls.Tie as tie
 
 abbrev Inv-loop : tie.InvT-loop
-Inv-loop fd s n answers₀ wrong₀ i₀ answers wrong i = i ≤ n
+Inv-loop fd s scratch₀ n wrong₀ i₀ scratch wrong i = (i ≤ n) × (length scratch ≡ length scratch₀)
 
 abbrev μ-loop : tie.MeasureT-loop
-μ-loop fd s n answers₀ wrong₀ i₀ answers wrong i = n - i
+μ-loop fd s scratch₀ n wrong₀ i₀ scratch wrong i = n - i
 
 word-requires : tie.Need-word-requires Inv-loop μ-loop
-word-requires c κs = search needs
+word-requires c κs = tt
 
 loop-holds : tie.Need-loop-holds Inv-loop μ-loop
-loop-holds c = omega arith
+loop-holds c = (omega arith, refl)
 
-call-requires : tie.Need-call-requires Inv-loop μ-loop
-call-requires c κs = search needs
+next-call-requires : tie.Need-next-call-requires Inv-loop μ-loop
+next-call-requires c κs = tt
+
+right-requires : tie.Need-right-requires Inv-loop μ-loop
+right-requires c κs = tt
 
 wrapping-add-u64-requires : tie.Need-wrapping-add-u64-requires Inv-loop μ-loop
-wrapping-add-u64-requires c κs = search needs
-
-wrapping-add-u64-requires-2 : tie.Need-wrapping-add-u64-requires-2 Inv-loop μ-loop
-wrapping-add-u64-requires-2 c κs = search needs
+wrapping-add-u64-requires c κs = tt
 
 add-i : tie.Need-add-i Inv-loop μ-loop
 add-i c = omega arith
@@ -35,8 +36,25 @@ loop-less c = omega arith
 loop-again : tie.Need-loop-again Inv-loop μ-loop
 loop-again c = omega arith
 
+same-length : tie.Need-same-length Inv-loop μ-loop
+same-length c = omega arith
+
 returns : tie.Need-returns Inv-loop μ-loop
 returns c = tt
 
 pub calls-spec : {M : Type 1} → statement M
-calls-spec = tie.close (tie.spec Inv-loop μ-loop word-requires loop-holds call-requires wrapping-add-u64-requires wrapping-add-u64-requires-2 add-i loop-less loop-again returns)
+calls-spec =
+    tie.close
+    (tie.spec
+    Inv-loop
+    μ-loop
+    word-requires
+    loop-holds
+    next-call-requires
+    right-requires
+    wrapping-add-u64-requires
+    add-i
+    loop-less
+    loop-again
+    same-length
+    returns)

@@ -10,14 +10,14 @@ use Rattle.arcs.proofs.root.root.Tie as tie
 held : (c : tie.Start) → T (fits binary64 (c .args .x))
 held c = subst T (sym (c .good .0 .1)) tt
 
-positive-root-requires : tie.Need-positive-root-requires
-positive-root-requires c κs = positive-arm (c .before .before .args .x) (rw is-zero at (c .before .if1 .taken)) (rw is-infinity at (c .if2 .left))
+unit-or-root-requires : tie.Need-unit-or-root-requires
+unit-or-root-requires c κs = positive-arm (c .before .before .args .x) (rw is-zero at (c .before .if1 .taken)) (rw is-infinity at (c .if2 .left))
 
 returns : tie.Need-returns
 returns c = infinity-arm (c .before .before .args .x) (rw is-infinity at (c .if2 .taken))
 
 returns-2 : tie.Need-returns-2
-returns-2 c = c .positive-root .ensures
+returns-2 c = c .unit-or-root .ensures
 
 returns-3 : tie.Need-returns-3
 returns-3 c = zero-arm (c .before .before .args .x) (held (c .before .before)) (rw is-zero at (c .if3 .taken))
@@ -26,4 +26,4 @@ returns-4 : tie.Need-returns-4
 returns-4 c = rw is-nan (nan-arm (c .before .before .args .x) (rw is-zero at (c .before .if1 .left)) (rw is-zero at (c .if3 .left)))
 
 pub root-spec : {M : Type 1} → statement M
-root-spec = tie.close (tie.spec positive-root-requires returns returns-2 returns-3 returns-4)
+root-spec = tie.close (tie.spec unit-or-root-requires returns returns-2 returns-3 returns-4)

@@ -1,0 +1,155 @@
+-- The freedoms of the bodies one after another, to the front of a slice. By the solver's laws of lists that grow piece by piece. Assumes nothing.
+use Prim.Native.Nat.{ℕ, suc, _+_, _-_, _*_, _≤_, _<_}
+use mathlib.Core.Path.{_≡_, refl, sym, ap, subst, _∙_}
+use mathlib.Core.Bool.{Bool, true, false, cond, not, _&&_}
+use mathlib.Core.List.{List, [], _∷_, _++_}
+use native.Mathlib.Omega.{arith}
+use native.Mathlib.Numerals.{add-one}
+use lib.ListN.{length, take, drop, length-drop}
+use lib.Seq.{take-add, take-all}
+use lib.Ieee.{Float}
+use Rattle.vectors.specs.Flat.{flat}
+use Rattle.solver.specs.Model.{Body, Rel}
+use Rattle.solver.specs.Lm.{jacobian}
+use Rattle.solver.specs.Record.{bodyAt}
+use Rattle.solver.specs.Scene.{Put, Laid, sceneOf, posesIn, posesDoubles}
+use Rattle.solver.specs.Solve.{Scene, moves, unknowns, halfSize}
+use Rattle.solver.specs.Dof.{Freedom, bodyDof, bodyRows, zeros, freedomOf, freedomsFrom, unnamedFrom, totalFreedom, dof}
+use Rattle.solver.specs.declared.scene.Scene.{Scene as SceneStruct}
+use Rattle.solver.proofs.SceneLaws.{Growing, growing-start, growing-step, growing-end, bodies-next, length-bodies, drop-whole}
+use Rattle.freedom.specs.Layout.{freedomDoubles, freedomsDoubles}
+use Rattle.freedom.specs.BodyFreedom.{fromSquare, freedomStruct}
+use Rattle.freedom.specs.BodySlopes.{starts, BodySquare}
+use Rattle.freedom.specs.Freed.{BodyFreed, Freed}
+use Rattle.freedom.specs.declared.body.Freedom.{Freedom as FreedomStruct}
+use Rattle.freedom.proofs.BodyLaws.{body-dof-is, few-slides, few-turns}
+use Rattle.freedom.proofs.BodySlopeLaws.{starts-there}
+
+-- ---- one body
+
+abbrev none : Freedom
+none = record { slides = []; turns = [] }
+
+-- what a body may do that is not fixed
+abbrev free : Scene → ℕ → Body → Freedom
+free sc i b =
+    bodyDof (jacobian (bodyRows sc i b) (zeros 6) (length (bodyRows sc i b (zeros 6)))) (length (bodyRows sc i b (zeros 6))) (b .center) (halfSize (b .size))
+
+freedom-is : (sc : Scene) (i : ℕ) (b : Body) (t : Bool) → b .fixed ≡ t → freedomOf sc i b ≡ cond t none (free sc i b)
+unfolding freedomOf
+freedom-is sc i b t h = ap (λ (u : Bool). cond u none (free sc i b)) h
+
+pub fixed-as : (a b : Body) (t : Bool) → a ≡ b → a .fixed ≡ t → b .fixed ≡ t
+fixed-as a b t e h = sym (ap (λ (w : Body). w .fixed) e) ∙ h
+
+pub freed-fixed : (sc : Scene) (s : List Float) (p m i : ℕ) (d e : List Float) (a b : Body) → a ≡ b → a .fixed ≡ true → posesIn s p m ≡ starts sc
+    → Put d e (29 * i) 29 (freedomDoubles (record { slides = []; turns = [] })) → BodyFreed sc s s p m i d e (freedomOf sc i b)
+freed-fixed sc s p m i d e a b q h k y =
+    record {
+      size = refl;
+      poses = k;
+      filled = subst (λ (f : Freedom). Put d e (29 * i) 29 (freedomDoubles f)) (sym (freedom-is sc i b true (fixed-as a b true q h))) y;
+    }
+
+pub freed-free : (sc : Scene) (s t : List Float) (p m i : ℕ) (d e : List Float) (a b : Body) (square : List (List Float)) (l : Float) (f : FreedomStruct) → a ≡ b → a .fixed ≡ false
+    → BodySquare sc s t p m i b square → l ≡ halfSize (a .size) → f ≡ freedomStruct (fromSquare (flat 6 square) (a .center) l)
+    → ((w : Freedom) → f ≡ freedomStruct w → length (w .slides) ≤ 3 → length (w .turns) ≤ 3 → Put d e (29 * i) 29 (freedomDoubles w)) → BodyFreed sc s t p m i d e (freedomOf sc i b)
+freed-free sc s t p m i d e a b square l f q h x n g y =
+    let w = fromSquare (flat 6 square) (a .center) l in
+    let k : l ≡ halfSize (b .size) = n ∙ ap (λ (v : Body). halfSize (v .size)) q in
+    let r : w ≡ free sc i b = (λ z. fromSquare (x .square z) (q z .center) (k z)) ∙ sym (body-dof-is _ _ (b .center) (halfSize (b .size))) in
+    record {
+      size = x .size;
+      poses = x .poses;
+      filled =
+          subst (λ (v : Freedom). Put d e (29 * i) 29 (freedomDoubles v)) (r ∙ sym (freedom-is sc i b false (fixed-as a b false q h)))
+          (y w g (few-slides (flat 6 square) (a .center) l) (few-turns (flat 6 square) (a .center) l));
+    }
+
+-- ---- the bodies one after another
+
+-- the doubles of the freedoms from body i on
+abbrev pub rest : List ℕ → SceneStruct → ℕ → List Float
+rest sheet c i = freedomsDoubles (freedomsFrom (sceneOf sheet c) i (drop i (sceneOf sheet c .bodies)))
+
+rest-cons : (sc : Scene) (i : ℕ) (b : Body) (bodies : List Body)
+    → freedomsDoubles (freedomsFrom sc i (b ∷ bodies)) ≡ freedomDoubles (freedomOf sc i b) ++ freedomsDoubles (freedomsFrom sc (suc i) bodies)
+unfolding freedomsFrom freedomsDoubles
+rest-cons sc i b bodies = refl
+
+rest-next : (sheet : List ℕ) (c : SceneStruct) (i : ℕ) → i < c .m
+    → rest sheet c i ≡ freedomDoubles (freedomOf (sceneOf sheet c) i (bodyAt sheet (c .bodies + 136 * i))) ++ rest sheet c (i + 1)
+rest-next sheet c i h =
+    rw add-one
+    (ap (λ (l : List Body). freedomsDoubles (freedomsFrom (sceneOf sheet c) i l)) (bodies-next sheet c i h)
+    ∙ rest-cons (sceneOf sheet c) i (bodyAt sheet (c .bodies + 136 * i)) (drop (suc i) (sceneOf sheet c .bodies)))
+
+rest-done : (sheet : List ℕ) (c : SceneStruct) (i : ℕ) → i ≡ c .m → rest sheet c i ≡ []
+unfolding freedomsFrom freedomsDoubles
+rest-done sheet c i e =
+    ap (λ (l : List Body). freedomsDoubles (freedomsFrom (sceneOf sheet c) i l)) (drop-whole (sceneOf sheet c .bodies) i (length-bodies sheet c ∙ sym e))
+
+-- the freedoms of the bodies before i stand at the front of e, and the starting poses in t
+pub record Passed (sheet : List ℕ) (c : SceneStruct) (s t d e : List Float) (p i : ℕ) : Type 0 where
+  pub within : i ≤ c .m
+  pub size : length t ≡ length s
+  pub poses : posesIn t p (c .m) ≡ starts (sceneOf sheet c)
+  pub filled : Growing d e 0 (29 * i) (rest sheet c i) (rest sheet c 0)
+
+pub none-passed : (sheet : List ℕ) (c : SceneStruct) (s t d : List Float) (p : ℕ) → Put s t p (12 * c .m) (posesDoubles (starts (sceneOf sheet c))) → Passed sheet c t t d d p 0
+none-passed sheet c s t d p y = record { within = omega arith; size = refl; poses = starts-there sheet c s t p y; filled = growing-start d 0 (rest sheet c 0) }
+
+pub one-passed : (sheet : List ℕ) (c : SceneStruct) (s t u d e g : List Float) (p i : ℕ) → i < c .m → Passed sheet c s t d e p i
+    → BodyFreed (sceneOf sheet c) t u p (c .m) i e g (freedomOf (sceneOf sheet c) i (bodyAt sheet (c .bodies + 136 * i))) → Passed sheet c s u d g p (i + 1)
+one-passed sheet c s t u d e g p i h x y =
+    record {
+      within = omega arith;
+      size = y .size ∙ x .size;
+      poses = y .poses;
+      filled = growing-step d e g 0 (29 * i) (29 * i) 29 (29 * (i + 1)) _ _ _ _ (omega arith) (omega arith) (rest-next sheet c i h) (x .filled) (y .filled);
+    }
+
+-- a list at the front of a slice: the rest is as it was
+put-front : (s t : List Float) (k : ℕ) (l : List Float) → Put s t 0 k l → t ≡ l ++ drop k s
+put-front s t k l y =
+    let e : 0 + k ≡ k = omega arith in
+    let a : drop k t ≡ drop k s = subst (λ (w : ℕ). drop w t ≡ drop w s) e (y .kept .above) in
+    let h : length t ≤ k + (length t - k) = omega arith in
+    let r : length (drop k t) ≤ length t - k = simp length-drop (omega arith) in
+    sym (take-all (k + (length t - k)) t h) ∙ take-add k (length t - k) t ∙ ap (λ (w : List Float). take k t ++ w) (take-all (length t - k) (drop k t) r ∙ a)
+    ∙ ap (λ (w : List Float). w ++ drop k s) (y .holds)
+
+pub all-passed : (sheet : List ℕ) (c : SceneStruct) (r s t u d e : List Float) (p i total : ℕ) → c .m ≤ i → length s ≡ length r → Passed sheet c s t d e p i
+    → (total ≡ totalFreedom (sceneOf sheet c)) × (length u ≡ length t) → Freed (sceneOf sheet c) (c .m) r u d e total
+unfolding dof
+all-passed sheet c r s t u d e p i total h n x y =
+    let k : i ≡ c .m = omega (arith, x .within) in
+    record {
+      size = y .1 ∙ x .size ∙ n;
+      freedoms-are =
+          subst (λ (w : ℕ). e ≡ rest sheet c 0 ++ drop (29 * w) d) k
+          (put-front d e (29 * i) (rest sheet c 0) (growing-end d e 0 (29 * i) _ _ (rest-done sheet c i k) (x .filled)));
+      total-is = y .0;
+    }
+
+-- ---- how many there are
+
+six-or-none : (t : Bool) (a n : ℕ) → a ≤ 6 * n → cond t 6 0 + a ≤ 6 * suc n
+six-or-none true a n h = omega arith
+six-or-none false a n h = omega arith
+
+unnamed-few : (rels : List Rel) (i : ℕ) (bodies : List Body) → unnamedFrom rels i bodies ≤ 6 * length bodies
+unfolding unnamedFrom
+unnamed-few rels i [] = omega arith
+unnamed-few rels i (b ∷ bodies) = six-or-none (not (b .fixed) && not (moves rels i b)) _ (length bodies) (unnamed-few rels (suc i) bodies)
+
+pub total-few : (sc : Scene) → totalFreedom sc ≤ unknowns sc + 6 * length (sc .bodies)
+unfolding totalFreedom
+total-few sc = omega (arith, unnamed-few (sc .rels) 0 (sc .bodies))
+
+-- at most six for each of 64 bodies twice over
+pub freed-few : (sheet : List ℕ) (c : SceneStruct) (s t d e : List Float) (total : ℕ) → Laid sheet c → c .n ≤ 384 → Freed (sceneOf sheet c) (c .m) s t d e total → total ≤ 768
+unfolding dof
+freed-few sheet c s t d e total laid h y =
+    let k : total ≡ totalFreedom (sceneOf sheet c) = y .total-is in
+    omega (arith, total-few (sceneOf sheet c), length-bodies sheet c, laid .unknown-count, laid .body-count)

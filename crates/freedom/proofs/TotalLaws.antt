@@ -1,0 +1,483 @@
+-- The whole assembly, step by step: the scaled unknowns, the slopes of any function column by column, their square row by row, the rank by the values, the free bodies that no relation
+-- names. Assumes nothing.
+use mathlib.Core.Path.{_≡_, refl, sym, ap, _∙_}
+use mathlib.Core.Bool.{Bool, true, false, not, _&&_, _||_, cond}
+use mathlib.Core.Logic.{_⊎_, inl, inr, ⊎-elim}
+use mathlib.Core.List.{List, [], _∷_, _++_, map}
+use mathlib.Core.Option.{Option, none, some}
+use Prim.Native.Nat.{ℕ, zero, suc, _+_, _-_, _*_, _≤_, _<_, min}
+use native.Mathlib.Omega.{arith}
+use native.Mathlib.Numerals.{add-one}
+use native.Mathlib.Nat.{not-suc-le-zero, le-of-suc-le-suc, eq-or-lt-of-le, zero-add, add-zero}
+use borrow.Author.Tests.{eq-eqb, ne-eqb}
+use lib.Dec.{eqb}
+use lib.ListN.{length, getD, set, take, drop, length-set, length-take, length-drop}
+use lib.Seq.{getD-set-same, getD-set-other, ext-getD, set-set, take-suc-set, drop-set-add, drop-cons}
+use lib.Ieee.{Float, nan, binary64, add, sub, mul, div, neg, lt, le}
+use Rattle.numbers.specs.Double.{zero64, fmax}
+use Rattle.arcs.specs.Root.{root}
+use Rattle.vectors.specs.Eigen.{Eigen, symEigen}
+use Rattle.solver.specs.Lm.{listOf, tableOf, sumFrom, stepOf, slopeOf, ahead, behind, slope, jacobian}
+use Rattle.solver.specs.LmPosts.{Copied}
+use Rattle.solver.specs.Memory.{part, Kept}
+use Rattle.solver.specs.Model.{Body, Rel}
+use Rattle.solver.specs.Record.{bodyAt, sceneIn}
+use Rattle.solver.specs.Scene.{firstUnknown, sceneOf, Laid, Put, RowsAt, Column}
+use Rattle.solver.specs.Solve.{Scene, moves, layoutFrom, layout, unknowns, rowsOf, halfSize}
+use Rattle.solver.specs.Dof.{columnsTimes, squareOf, largestValue, scaleThree, scaledFrom, scaledRows, stiffCount, rankRel, unnamedFrom, totalFreedom, zeros, top}
+use Rattle.solver.specs.declared.scene.Scene.{Scene as SceneStruct}
+use Rattle.solver.proofs.MemoryLaws.{part-length, part-at, part-set, kept-refl, kept-set, kept-trans, kept-wider, kept-at-below, kept-at-above, kept-part-below, part-part}
+use Rattle.solver.proofs.TableLaws.{in-rows, table-ext, sum-same, getD-listOf}
+use Rattle.solver.proofs.SceneLaws.{next-layout, length-bodies, bodies-next, layout-next, drop-whole}
+use Rattle.solver.proofs.LmLaws.{row-step, row-fits, entry-at}
+use borrow.Rule.Slice.PartMut.{putMid, mid-len}
+use Rattle.freedom.specs.Values.{Values}
+use Rattle.freedom.proofs.ValueLaws.{lent-part}
+use Rattle.freedom.specs.Total.{scaledBy, RowsBy, SlopeColumnBy, SlopesBy, SquareRow, largestOf, stiffOne, stiffOf, rankOf, unnamedOne}
+
+-- ---- the scaled unknowns
+
+set-three : (s : List Float) (z n i : ℕ) (a b c : Float) → i + 3 ≤ n
+    → part (set (set (set s (z + i) a) (z + i + 1) b) (z + i + 2) c) z n ≡ set (set (set (part s z n) i a) (i + 1) b) (i + 2) c
+set-three s z n i a b c h =
+    let e : z + i + 1 ≡ z + (i + 1) = omega arith in
+    let f : z + i + 2 ≡ z + (i + 2) = omega arith in
+    ap (λ (w : ℕ). part (set (set (set s (z + i) a) (z + i + 1) b) w c) z n) f
+    ∙ part-set (set (set s (z + i) a) (z + i + 1) b) z n (i + 2) c (omega arith)
+    ∙ ap (λ (l : List Float). set l (i + 2) c)
+    (ap (λ (w : ℕ). part (set (set s (z + i) a) w b) z n) e ∙ part-set (set s (z + i) a) z n (i + 1) b (omega arith)
+    ∙ ap (λ (l : List Float). set l (i + 1) b) (part-set s z n i a (omega arith)))
+
+scale-part : (s : List Float) (z n i : ℕ) (l : Float) → i + 3 ≤ n → part (scaleThree s (z + i) l) z n ≡ scaleThree (part s z n) i l
+scale-part s z n i l h =
+    let e : z + i + 1 ≡ z + (i + 1) = omega arith in
+    let f : z + i + 2 ≡ z + (i + 2) = omega arith in
+    let p0 : getD s (z + i) nan ≡ getD (part s z n) i nan = sym (part-at s z n i nan (omega arith)) in
+    let p1 : getD s (z + i + 1) nan ≡ getD (part s z n) (i + 1) nan = ap (λ (w : ℕ). getD s w nan) e ∙ sym (part-at s z n (i + 1) nan (omega arith)) in
+    let p2 : getD s (z + i + 2) nan ≡ getD (part s z n) (i + 2) nan = ap (λ (w : ℕ). getD s w nan) f ∙ sym (part-at s z n (i + 2) nan (omega arith)) in
+    set-three s z n i _ _ _ h
+    ∙ (λ j. set (set (set (part s z n) i (div binary64 (p0 j) l)) (i + 1) (div binary64 (p1 j) l)) (i + 2) (div binary64 (p2 j) l))
+
+scale-kept : (s : List Float) (z n o : ℕ) (l : Float) → z ≤ o → o + 3 ≤ z + n → Kept s (scaleThree s o l) z (z + n)
+scale-kept s z n o l h m =
+    kept-set s _ z (z + n) (o + 2) _ (omega arith) (omega arith)
+    (kept-set s _ z (z + n) (o + 1) _ (omega arith) (omega arith) (kept-set s s z (z + n) o _ h (omega arith) (kept-refl s z (z + n))))
+
+-- a body that has no unknowns, and one that has
+pub scale-none : (s : List Float) (z n first : ℕ) (l : Float) → first ≡ 0xFFFF → Put s s z n (scaledBy (part s z n) l (firstUnknown first))
+unfolding scaledBy firstUnknown
+scale-none s z n first l e = rw (eq-eqb first 0xFFFF e) (record { holds = refl; kept = kept-refl s z (z + n) })
+
+pub scale-some : (s t : List Float) (z n first : ℕ) (l : Float) → (first ≡ 0xFFFF → ⊥) → first + 6 ≤ n → t ≡ scaleThree s (z + first + 3) l
+    → Put s t z n (scaledBy (part s z n) l (firstUnknown first))
+unfolding scaledBy firstUnknown
+scale-some s t z n first l ne h f =
+    let w : z + first + 3 ≡ z + (first + 3) = omega arith in
+    rw (f, ne-eqb first 0xFFFF ne, w)
+    (record { holds = scale-part s z n (first + 3) l (omega arith); kept = scale-kept s z n (z + (first + 3)) l (omega arith) (omega arith) })
+
+scaled-cons : (x : List Float) (b : Body) (bodies : List Body) (k : Option ℕ) (l : List (Option ℕ)) → scaledFrom x (b ∷ bodies) (k ∷ l) ≡ scaledFrom (scaledBy x (halfSize (b .size)) k) bodies l
+unfolding scaledFrom scaledBy
+scaled-cons x b bodies none l = refl
+scaled-cons x b bodies (some k) l = refl
+
+-- the unknowns scaled from body i on
+abbrev pub restScaled : List ℕ → SceneStruct → List Float → ℕ → List Float
+restScaled sheet c x i = scaledFrom x (drop i (sceneOf sheet c .bodies)) (drop i (layout (sceneOf sheet c)))
+
+scaled-next : (sheet : List ℕ) (c : SceneStruct) (x : List Float) (i : ℕ) → Laid sheet c → i < c .m
+    → restScaled sheet c x i ≡ restScaled sheet c (scaledBy x (halfSize (bodyAt sheet (c .bodies + 136 * i) .size)) (firstUnknown (getD (c .index) i 0))) (suc i)
+scaled-next sheet c x i laid h =
+    (λ z. scaledFrom x (bodies-next sheet c i h z) (layout-next sheet c i laid h z))
+    ∙ scaled-cons x (bodyAt sheet (c .bodies + 136 * i)) (drop (suc i) (sceneOf sheet c .bodies)) (firstUnknown (getD (c .index) i 0)) (drop (suc i) (layout (sceneOf sheet c)))
+
+pub scaled-step : (sheet : List ℕ) (c : SceneStruct) (s t u : List Float) (z i : ℕ) (whole : List Float) → Laid sheet c → i < c .m → Kept s t z (z + c .n)
+    → restScaled sheet c (part t z (c .n)) i ≡ whole
+    → Put t u z (c .n) (scaledBy (part t z (c .n)) (halfSize (bodyAt sheet (c .bodies + 136 * i) .size)) (firstUnknown (getD (c .index) i 0)))
+    → Kept s u z (z + c .n) × (restScaled sheet c (part u z (c .n)) (i + 1) ≡ whole)
+scaled-step sheet c s t u z i whole laid h k e y = (
+  kept-trans s t u z (z + c .n) k (y .kept),
+  rw add-one (ap (λ (x : List Float). restScaled sheet c x (suc i)) (y .holds) ∙ sym (scaled-next sheet c (part t z (c .n)) i laid h) ∙ e),
+)
+
+pub scaled-done : (sheet : List ℕ) (c : SceneStruct) (x : List Float) (i : ℕ) → i ≡ c .m → restScaled sheet c x i ≡ x
+unfolding scaledFrom
+scaled-done sheet c x i e =
+    ap (λ (l : List Body). scaledFrom x l (drop i (layout (sceneOf sheet c)))) (drop-whole (sceneOf sheet c .bodies) i (length-bodies sheet c ∙ sym e))
+
+pub scaled-rows-is : (sc : Scene) (s s1 s2 t : List Float) (x n z r rows p : ℕ) → z + n ≤ r → Copied s s1 x z n
+    → Put s1 s2 z n (scaledFrom (part s1 z n) (sc .bodies) (layout sc)) → RowsAt sc s2 t z n r rows p → RowsBy (scaledRows sc) s t x n z r rows
+scaled-rows-is sc s s1 s2 t x n z r rows p h a b d =
+    record {
+      size = d .size ∙ b .kept .size ∙ a .kept .size;
+      holds = d .holds ∙ ap (rowsOf sc) (b .holds ∙ ap (λ (w : List Float). scaledFrom w (sc .bodies) (layout sc)) (a .copy));
+      below = λ q l. d .below q (omega arith) ∙ kept-at-below s1 s2 z (z + n) q nan l (b .kept) ∙ kept-at-below s s1 z (z + n) q nan l (a .kept);
+      between = λ q l m. d .below q m ∙ kept-at-above s1 s2 z (z + n) q nan l (b .kept) ∙ kept-at-above s s1 z (z + n) q nan l (a .kept);
+    }
+
+-- ---- one column of the slopes
+
+lt-or-ge : (a b : ℕ) → (a < b) ⊎ (b ≤ a)
+lt-or-ge a zero = inr (omega arith)
+lt-or-ge zero (suc b) = inl (omega arith)
+lt-or-ge (suc a) (suc b) = ⊎-elim (λ h. inl (omega arith)) (λ h. inr (omega arith)) (lt-or-ge a b)
+
+part-same : (s t : List Float) (o k : ℕ) → length t ≡ length s → ((i : ℕ) → i < k → getD t (o + i) nan ≡ getD s (o + i) nan) → part t o k ≡ part s o k
+part-same s t o k e h = ext-getD nan (part t o k) (part s o k) (simp (length-take, length-drop) (omega arith)) at
+  where
+    at : (i : ℕ) → i < length (part t o k) → getD (part t o k) i nan ≡ getD (part s o k) i nan
+    at i l =
+        let m : i < k = omega (arith, simp length-take at l) in
+        part-at t o k i nan m ∙ h i m ∙ sym (part-at s o k i nan m)
+
+module _ (f : List Float → List Float) (s s2 s4 t : List Float) (j n rows x y z a b c : ℕ) (v h : Float)
+    (c-in : c < n) (j-x : j + rows * n ≤ x) (x-y : x + n ≤ y) (y-z : y + n ≤ z) (z-a : z + n ≤ a) (a-b : a + rows ≤ b) (b-s : b + rows ≤ length s)
+    (same : part s y n ≡ part s x n) (v-is : v ≡ getD s (x + c) nan) (h-is : h ≡ stepOf v)
+    (up : RowsBy f (set s (y + c) (add binary64 v h)) s2 y n z a rows)
+    (down : RowsBy f (set s2 (y + c) (sub binary64 v h)) s4 y n z b rows)
+    (col : Column (set s4 (y + c) v) t j n rows c (λ i. slopeOf (getD (set s4 (y + c) v) (a + i) nan) (getD (set s4 (y + c) v) (b + i) nan) h)) where
+  size2 : length s2 ≡ length s
+  size2 = up .size ∙ length-set s (y + c) (add binary64 v h)
+
+  size4 : length s4 ≡ length s
+  size4 = down .size ∙ length-set s2 (y + c) (sub binary64 v h) ∙ size2
+
+  v-at : getD (part s x n) c nan ≡ v
+  v-at = part-at s x n c nan c-in ∙ sym v-is
+
+  ahead-y : part (set s (y + c) (add binary64 v h)) y n ≡ set (part s x n) c (add binary64 v h)
+  ahead-y = part-set s y n c (add binary64 v h) c-in ∙ ap (λ (l : List Float). set l c (add binary64 v h)) same
+
+  ahead-is : part s2 a rows ≡ f (ahead (part s x n) c (stepOf (getD (part s x n) c nan)))
+  ahead-is =
+      up .holds ∙ ap f ahead-y ∙ (λ i. f (set (part s x n) c (add binary64 (sym v-at i) ((h-is ∙ ap stepOf (sym v-at)) i))))
+
+  behind-y : part (set s2 (y + c) (sub binary64 v h)) y n ≡ set (part s x n) c (sub binary64 v h)
+  behind-y =
+      part-set s2 y n c (sub binary64 v h) c-in
+      ∙ ap (λ (l : List Float). set l c (sub binary64 v h)) (part-same (set s (y + c) (add binary64 v h)) s2 y n (up .size) (λ i l. up .below (y + i) (omega arith)) ∙ ahead-y)
+      ∙ set-set (part s x n) c (add binary64 v h) (sub binary64 v h)
+
+  behind-is : part s4 b rows ≡ f (behind (part s x n) c (stepOf (getD (part s x n) c nan)))
+  behind-is =
+      down .holds ∙ ap f behind-y ∙ (λ i. f (set (part s x n) c (sub binary64 (sym v-at i) ((h-is ∙ ap stepOf (sym v-at)) i))))
+
+  plus-at : (i : ℕ) → i < rows → getD (set s4 (y + c) v) (a + i) nan ≡ getD (f (ahead (part s x n) c (stepOf (getD (part s x n) c nan)))) i nan
+  plus-at i l =
+      getD-set-other s4 (y + c) (a + i) v nan (λ e. absurd (omega arith)) ∙ down .between (a + i) (omega arith) (omega arith)
+      ∙ getD-set-other s2 (y + c) (a + i) (sub binary64 v h) nan (λ e. absurd (omega arith))
+      ∙ sym (part-at s2 a rows i nan l)
+      ∙ ap (λ (w : List Float). getD w i nan) ahead-is
+
+  minus-at : (i : ℕ) → i < rows → getD (set s4 (y + c) v) (b + i) nan ≡ getD (f (behind (part s x n) c (stepOf (getD (part s x n) c nan)))) i nan
+  minus-at i l =
+      getD-set-other s4 (y + c) (b + i) v nan (λ e. absurd (omega arith)) ∙ sym (part-at s4 b rows i nan l) ∙ ap (λ (w : List Float). getD w i nan) behind-is
+
+  -- below z, all is as it was before the column is written
+  unmoved : (q : ℕ) → q < z → (q ≡ y + c → ⊥) → getD (set s4 (y + c) v) q nan ≡ getD s q nan
+  unmoved q l e =
+      getD-set-other s4 (y + c) q v nan e ∙ down .below q l ∙ getD-set-other s2 (y + c) q (sub binary64 v h) nan e ∙ up .below q l
+      ∙ getD-set-other s (y + c) q (add binary64 v h) nan e
+
+  restored : getD (set s4 (y + c) v) (y + c) nan ≡ getD s (y + c) nan
+  restored =
+      getD-set-same s4 (y + c) v nan (let z = size4 in omega arith) ∙ sym v-at ∙ ap (λ (w : List Float). getD w c nan) (sym same) ∙ part-at s y n c nan c-in
+
+  before : (q : ℕ) → q < z → getD (set s4 (y + c) v) q nan ≡ getD s q nan
+  before q l =
+      elim (lt-or-ge q (y + c)) [
+        | inl m ↦ unmoved q l (λ e. absurd (omega arith))
+        | inr m ↦
+            elim (eq-or-lt-of-le m) [
+              | inl e ↦ ap (λ (w : ℕ). getD (set s4 (y + c) v) w nan) (sym e) ∙ restored ∙ ap (λ (w : ℕ). getD s w nan) e
+              | inr k ↦ unmoved q l (λ e. absurd (omega arith))
+            ]
+      ]
+
+  pub slope-column-is : SlopeColumnBy f s t j n rows x z c
+  unfolding slope
+  slope-column-is =
+      record {
+        size = col .kept .size ∙ length-set s4 (y + c) v ∙ size4;
+        entries = λ i l. col .entries i l ∙ (λ w. slopeOf (plus-at i l w) (minus-at i l w) ((h-is ∙ ap stepOf (sym v-at)) w));
+        others = λ i d l k e. col .others i d l k e ∙ before (j + (i * n + d)) (let w = in-rows i d n rows l k in omega arith);
+        between = λ q l k. kept-at-above (set s4 (y + c) v) t j (j + rows * n) q nan l (col .kept) ∙ before q k;
+      }
+
+-- ---- all columns
+
+-- the first c columns are written
+pub record Columns (f : List Float → List Float) (s t : List Float) (j n rows x z c : ℕ) : Type 0 where
+  pub size : length t ≡ length s
+  pub entries : (i d : ℕ) → i < rows → d < c → getD t (j + (i * n + d)) nan ≡ slope f (part s x n) i d
+  pub between : (q : ℕ) → j + rows * n ≤ q → q < z → getD t q nan ≡ getD s q nan
+
+pub columns-start : (f : List Float → List Float) (s : List Float) (j n rows x z : ℕ) → Columns f s s j n rows x z 0
+columns-start f s j n rows x z = record { size = refl; entries = λ i d h l. absurd (not-suc-le-zero l); between = λ q h l. refl }
+
+-- the unknowns, and their copy, are as they were
+pub columns-part : (f : List Float → List Float) (s t : List Float) (j n rows x z c o : ℕ) → j + rows * n ≤ o → o + n ≤ z → Columns f s t j n rows x z c → part t o n ≡ part s o n
+columns-part f s t j n rows x z c o h l g = part-same s t o n (g .size) (λ i m. g .between (o + i) (omega arith) (omega arith))
+
+pub columns-step : (f : List Float → List Float) (s t u : List Float) (j n rows x z c : ℕ) → c < n → j + rows * n ≤ x → x + n ≤ z → Columns f s t j n rows x z c
+    → SlopeColumnBy f t u j n rows x z c → Columns f s u j n rows x z (c + 1)
+columns-step f s t u j n rows x z c h l m g y =
+    record { size = y .size ∙ g .size; entries = entries; between = λ q k w. y .between q k w ∙ g .between q k w }
+  where
+    entries : (i d : ℕ) → i < rows → d < c + 1 → getD u (j + (i * n + d)) nan ≡ slope f (part s x n) i d
+    entries i d k w =
+        elim (eq-or-lt-of-le (le-of-suc-le-suc (rw add-one at w))) [
+          | inl e ↦
+              ap (λ (v : ℕ). getD u (j + (i * n + v)) nan) e ∙ y .entries i k ∙ ap (λ (v : List Float). slope f v i c) (columns-part f s t j n rows x z c x l m g)
+              ∙ ap (slope f (part s x n) i) (sym e)
+          | inr e ↦ y .others i d k (omega arith) (λ q. absurd (omega arith)) ∙ g .entries i d k e
+        ]
+
+pub columns-end : (f : List Float → List Float) (s t : List Float) (j n rows x z c : ℕ) → c ≡ n → j + rows * n ≤ length s → x + n ≤ length s → Columns f s t j n rows x z c
+    → SlopesBy f s t j n rows x
+unfolding jacobian
+columns-end f s t j n rows x z c e h l g =
+    let k = g .size in
+    let w = part-length s x n l in
+    record {
+      size = g .size;
+      holds =
+          table-ext (slope f (part s x n)) n rows (part t j (rows * n)) (part-length t j (rows * n) (omega arith))
+          (λ i d u v. part-at t j (rows * n) (i * n + d) nan (in-rows i d n rows u v) ∙ g .entries i d u (rw e v))
+          ∙ ap (λ (q : ℕ). tableOf (slope f (part s x n)) q rows) (sym w);
+    }
+
+-- ---- zeros
+
+pub clear-step : (o s : List Float) (at i k : ℕ) → at + k ≤ length o → i < k → Kept o s at (at + k) → part s at i ≡ zeros i → part (set s (at + i) zero64) at (i + 1) ≡ zeros (i + 1)
+unfolding listOf
+clear-step o s at i k h l r e =
+    let z = r .size in
+    let m : i < length (drop at s) = simp length-drop (omega arith) in
+    rw (add-one i) (ap (take (suc i)) (drop-set-add at s i zero64) ∙ take-suc-set (drop at s) i zero64 m ∙ ap (λ (w : List Float). w ++ (zero64 ∷ [])) e)
+
+-- ---- the square
+
+abbrev pub productsIn : List Float → ℕ → ℕ → ℕ → ℕ → Float
+productsIn s n i j r = mul binary64 (getD s (r * n + i) nan) (getD s (r * n + j) nan)
+
+pub columns-times-is : (s : List Float) (rows n i j r : ℕ) (t : Float) → i < n → j < n → r ≡ rows → t ≡ sumFrom (neg zero64) (productsIn s n i j) r
+    → t ≡ columnsTimes (part s 0 (rows * n)) rows n i j
+unfolding columnsTimes
+columns-times-is s rows n i j r t h l e f =
+    f ∙ ap (sumFrom (neg zero64) (productsIn s n i j)) e
+    ∙ sum-same (neg zero64) (productsIn s n i j) (λ q. mul binary64 (getD (part s 0 (rows * n)) (q * n + i) nan) (getD (part s 0 (rows * n)) (q * n + j) nan)) rows
+    (λ q m. λ k. mul binary64 (at q i m h k) (at q j m l k))
+  where
+    at : (q d : ℕ) → q < rows → d < n → getD s (q * n + d) nan ≡ getD (part s 0 (rows * n)) (q * n + d) nan
+    at q d m w = sym (part-at s 0 (rows * n) (q * n + d) nan (in-rows q d n rows m w) ∙ ap (λ (x : ℕ). getD s x nan) (zero-add (q * n + d)))
+
+-- the slopes are kept while their square is formed
+same-products : (s t : List Float) (rows n lo hi i k : ℕ) → rows * n ≤ lo → Kept s t lo hi → columnsTimes (part t 0 (rows * n)) rows n i k ≡ columnsTimes (part s 0 (rows * n)) rows n i k
+same-products s t rows n lo hi i k h r = ap (λ (w : List Float). columnsTimes w rows n i k) (kept-part-below s t lo hi 0 (rows * n) (omega arith) r)
+
+-- one more entry of row i
+pub square-step : (o s : List Float) (rows n at i k : ℕ) (v : Float) → k < n → rows * n ≤ at → at + n ≤ length o → Kept o s at (at + n)
+    → ((j : ℕ) → j < k → getD s (at + j) nan ≡ columnsTimes (part o 0 (rows * n)) rows n i j)
+    → v ≡ columnsTimes (part s 0 (rows * n)) rows n i k
+    → Kept o (set s (at + k) v) at (at + n) × ((j : ℕ) → j < k + 1 → getD (set s (at + k) v) (at + j) nan ≡ columnsTimes (part o 0 (rows * n)) rows n i j)
+square-step o s rows n at i k v h l m r e q =
+    let z = r .size in (
+      kept-set o s at (at + n) (at + k) v (omega arith) (omega arith) r,
+      row-step s at k v (columnsTimes (part o 0 (rows * n)) rows n i) (omega arith) (q ∙ same-products o s rows n at (at + n) i k l r) e,
+    )
+
+-- the first i rows of the square at a are those of the slopes that o has
+abbrev pub Squared : List Float → List Float → ℕ → ℕ → ℕ → ℕ → Type 0
+Squared o s rows n a i = (p k : ℕ) → p < i → k < n → getD s (a + p * n + k) nan ≡ columnsTimes (part o 0 (rows * n)) rows n p k
+
+pub squared-step : (o s t : List Float) (rows n a i : ℕ) → i < n → rows * n ≤ a → Kept o s a (a + n * n) → Squared o s rows n a i → SquareRow s t rows n a i
+    → Kept o t a (a + n * n) × Squared o t rows n a (i + 1)
+squared-step o s t rows n a i h l r e q =
+    let f = row-fits i n n h in
+    (kept-trans o s t a (a + n * n) r (kept-wider s t (a + i * n) (a + i * n + n) a (a + n * n) (omega arith) (omega arith) (q .kept)), more)
+  where
+    more : Squared o t rows n a (i + 1)
+    more p k b d =
+        elim (eq-or-lt-of-le (le-of-suc-le-suc (rw add-one at b))) [
+          | inl z ↦
+              ap (λ (x : ℕ). getD t (a + x * n + k) nan) z ∙ q .entries k d ∙ same-products o s rows n a (a + n * n) i k l r
+              ∙ ap (λ (x : ℕ). columnsTimes (part o 0 (rows * n)) rows n x k) (sym z)
+          | inr z ↦
+              let g = row-fits p n i z in
+              kept-at-below s t (a + i * n) (a + i * n + n) (a + p * n + k) nan (omega arith) (q .kept) ∙ e p k z d
+        ]
+
+pub squared-all : (o s : List Float) (rows n a i : ℕ) → i ≡ n → a + n * n ≤ length o → Kept o s a (a + n * n) → Squared o s rows n a i
+    → Put o s a (n * n) (squareOf (part o 0 (rows * n)) rows n)
+squared-all o s rows n a i q h r e =
+    let z = r .size in
+    record {
+      holds =
+          table-ext (columnsTimes (part o 0 (rows * n)) rows n) n n (part s a (n * n)) (part-length s a (n * n) (omega arith))
+          (λ p k l m. entry-at s a n p k l m ∙ e p k (rw q l) m);
+      kept = r;
+    }
+
+-- ---- the rank by the values
+
+pub largest-step : (m : Float) (l : List Float) (i : ℕ) → i < length l → largestOf m (drop i l) ≡ largestOf (fmax m (getD l i nan)) (drop (i + 1) l)
+unfolding largestOf
+largest-step m l i h = rw add-one (ap (largestOf m) (drop-cons l i nan h))
+
+pub largest-done : (m : Float) (l : List Float) (i : ℕ) → i ≡ length l → largestOf m (drop i l) ≡ m
+unfolding largestOf
+largest-done m l i e = ap (largestOf m) (drop-whole l i (sym e))
+
+pub stiff-step : (most : Float) (l : List Float) (i : ℕ) → i < length l → stiffOf most (drop i l) ≡ stiffOne most (getD l i nan) + stiffOf most (drop (i + 1) l)
+unfolding stiffOf
+stiff-step most l i h = rw add-one (ap (stiffOf most) (drop-cons l i nan h))
+
+pub stiff-done : (most : Float) (l : List Float) (i : ℕ) → i ≡ length l → stiffOf most (drop i l) ≡ 0
+unfolding stiffOf
+stiff-done most l i e = ap (stiffOf most) (drop-whole l i (sym e))
+
+pub stiff-small : (most x : Float) → stiffOne most x ≤ 1
+unfolding stiffOne
+stiff-small most x = go (lt _ _)
+  where
+    go : (b : Bool) → cond b 1 0 ≤ 1
+    go true = omega arith
+    go false = omega arith
+
+largest-values : (m : Float) (l : List Eigen) → largestOf m (map (λ (e : Eigen). e .value) l) ≡ largestValue m l
+unfolding largestOf largestValue
+largest-values m [] = refl
+largest-values m (e ∷ l) = largest-values (fmax m (e .value)) l
+
+stiff-values : (most : Float) (l : List Eigen) → stiffOf most (map (λ (e : Eigen). e .value) l) ≡ stiffCount most l
+unfolding stiffOf stiffOne stiffCount
+stiff-values most [] = refl
+stiff-values most (e ∷ l) = ap (λ (k : ℕ). stiffOne most (e .value) + k) (stiff-values most l)
+
+rank-values : (l : List Eigen) → rankOf (map (λ (e : Eigen). e .value) l) ≡ cond (le (top l) zero64) 0 (stiffCount (top l) l)
+unfolding rankOf
+rank-values l =
+    let e = largest-values zero64 l in
+    (λ j. cond (le (root (e j)) zero64) 0 (stiffOf (root (e j)) (map (λ (e : Eigen). e .value) l))) ∙ ap (cond (le (top l) zero64) 0) (stiff-values (top l) l)
+
+rank-test : (jac : List Float) (rows n : ℕ) (b : Bool) → (eqb rows 0 || eqb n 0) ≡ b
+    → rankRel jac rows n ≡ elim b as (λ _. ℕ) [ true ↦ 0 | false ↦ cond (le (top (symEigen n (squareOf jac rows n))) zero64) 0 (stiffCount (top (symEigen n (squareOf jac rows n))) (symEigen n (squareOf jac rows n))) ]
+unfolding rankRel
+rank-test jac rows n b e =
+    ap (λ (t : Bool). elim t as (λ _. ℕ) [ true ↦ 0 | false ↦ cond (le (top (symEigen n (squareOf jac rows n))) zero64) 0 (stiffCount (top (symEigen n (squareOf jac rows n))) (symEigen n (squareOf jac rows n))) ]) e
+
+pub rank-no-rows : (jac : List Float) (rows n : ℕ) → eqb rows 0 ≡ true → 0 ≡ rankRel jac rows n
+rank-no-rows jac rows n e = sym (rank-test jac rows n true (ap (λ (b : Bool). b || eqb n 0) e))
+
+pub rank-no-columns : (jac : List Float) (rows n : ℕ) → eqb rows 0 ≡ false → eqb n 0 ≡ true → 0 ≡ rankRel jac rows n
+rank-no-columns jac rows n e f = sym (rank-test jac rows n true (λ j. e j || f j))
+
+pub rank-some : (jac vals : List Float) (rows n r : ℕ) → eqb rows 0 ≡ false → eqb n 0 ≡ false → vals ≡ map (λ (e : Eigen). e .value) (symEigen n (squareOf jac rows n)) → r ≡ rankOf vals
+    → r ≡ rankRel jac rows n
+rank-some jac vals rows n r e f v q = q ∙ ap rankOf v ∙ rank-values (symEigen n (squareOf jac rows n)) ∙ sym (rank-test jac rows n false (λ j. e j || f j))
+
+-- the square's values, in the part that was lent
+pub rank-rel-is : (s s1 q : List Float) (rows n r : ℕ) → rows * n + n * n + n ≤ length s → eqb rows 0 ≡ false → eqb n 0 ≡ false
+    → Put s s1 (rows * n) (n * n) (squareOf (part s 0 (rows * n)) rows n)
+    → Values n (take (rows * n + n * n + n - rows * n) (drop (rows * n) s1)) q
+    → r ≡ rankOf (take (rows * n + n * n + n - (rows * n + n * n)) (drop (rows * n + n * n) (putMid (rows * n) (rows * n + n * n + n - rows * n) s1 q)))
+    → r ≡ rankRel (part s 0 (rows * n)) rows n
+rank-rel-is s s1 q rows n r room e f a v ranked =
+    let z = a .kept .size in
+    let d : rows * n + n * n + n - rows * n ≡ n * n + n = omega arith in
+    let g : rows * n + n * n + n - (rows * n + n * n) ≡ n = omega arith in
+    let l : length q ≡ rows * n + n * n + n - rows * n = v .kept .size ∙ mid-len (rows * n) (rows * n + n * n + n) s1 (omega arith) in
+    let t = putMid (rows * n) (rows * n + n * n + n - rows * n) s1 q in
+    let whole : part t (rows * n) (n * n + n) ≡ q = lent-part s1 q (rows * n) (rows * n + n * n + n) (n * n + n) (omega arith) (l ∙ d) in
+    let own : part (take (rows * n + n * n + n - rows * n) (drop (rows * n) s1)) 0 (n * n) ≡ squareOf (part s 0 (rows * n)) rows n
+    = part-part s1 (rows * n) (rows * n + n * n + n - rows * n) 0 (n * n) (omega arith) ∙ ap (λ (o : ℕ). part s1 o (n * n)) (add-zero (rows * n)) ∙ a .holds in
+    let vals : part t (rows * n + n * n) n ≡ map (λ (e : Eigen). e .value) (symEigen n (squareOf (part s 0 (rows * n)) rows n))
+    = sym (part-part t (rows * n) (n * n + n) (n * n) n (omega arith)) ∙ ap (λ (w : List Float). part w (n * n) n) whole ∙ v .values
+    ∙ ap (λ (w : List Float). map (λ (e : Eigen). e .value) (symEigen n w)) own in
+    rank-some (part s 0 (rows * n)) (part t (rows * n + n * n) n) rows n r e f vals (ranked ∙ ap (λ (k : ℕ). rankOf (take k (drop (rows * n + n * n) t))) g)
+
+-- ---- free bodies that no relation names
+
+isSome : Option ℕ → Bool
+isSome none = false
+isSome (some k) = true
+
+-- a body has unknowns where it moves
+layout-moves : (rels : List Rel) (i next : ℕ) (bodies : List Body) (j : ℕ) (d : Body) → j < length bodies → isSome (getD (layoutFrom rels i next bodies) j none) ≡ moves rels (i + j) (getD bodies j d)
+unfolding layoutFrom isSome
+layout-moves rels i next [] j d h = absurd (not-suc-le-zero h)
+layout-moves rels i next (b ∷ bodies) zero d h = rw add-zero (go (moves rels i b))
+  where
+    go : (t : Bool) → isSome (getD (next-layout rels i next bodies t) 0 none) ≡ t
+    go true = refl
+    go false = refl
+layout-moves rels i next (b ∷ bodies) (suc j) d h =
+    let e : i + suc j ≡ suc i + j = omega arith in
+    rw e (go (moves rels i b) (λ n. layout-moves rels (suc i) n bodies j d (le-of-suc-le-suc h)))
+  where
+    go : (t : Bool) → ((n : ℕ) → isSome (getD (layoutFrom rels (suc i) n bodies) j none) ≡ moves rels (suc i + j) (getD bodies j d))
+        → isSome (getD (next-layout rels i next bodies t) (suc j) none) ≡ moves rels (suc i + j) (getD bodies j d)
+    go true f = f (next + 6)
+    go false f = f next
+
+unnamed-test : (fixed moving : Bool) (k : Option ℕ) → isSome k ≡ moving → cond (not fixed && not moving) 6 0 ≡ unnamedOne fixed k
+unfolding unnamedOne isSome
+unnamed-test true moving k e = go k
+  where
+    go : (k : Option ℕ) → 0 ≡ unnamedOne true k
+    go none = refl
+    go (some k) = refl
+unnamed-test false moving none e = ap (λ (b : Bool). cond (not b) 6 0) (sym e)
+unnamed-test false moving (some k) e = ap (λ (b : Bool). cond (not b) 6 0) (sym e)
+
+-- six for each from body i on
+abbrev pub restUnnamed : List ℕ → SceneStruct → ℕ → ℕ
+restUnnamed sheet c i = unnamedFrom (sceneOf sheet c .rels) i (drop i (sceneOf sheet c .bodies))
+
+body-is : (sheet : List ℕ) (c : SceneStruct) (i : ℕ) (d : Body) → i < c .m → getD (sceneOf sheet c .bodies) i d ≡ bodyAt sheet (c .bodies + 136 * i)
+unfolding sceneIn
+body-is sheet c i d h = getD-listOf (λ i. bodyAt sheet (c .bodies + 136 * i)) (c .m) i d h
+
+pub unnamed-step : (sheet : List ℕ) (c : SceneStruct) (i : ℕ) → Laid sheet c → i < c .m
+    → restUnnamed sheet c i ≡ unnamedOne (bodyAt sheet (c .bodies + 136 * i) .fixed) (firstUnknown (getD (c .index) i 0)) + restUnnamed sheet c (i + 1)
+unfolding unnamedFrom
+unnamed-step sheet c i laid h =
+    let b = bodyAt sheet (c .bodies + 136 * i) in
+    let rels = sceneOf sheet c .rels in
+    let l : i < length (sceneOf sheet c .bodies) = rw (length-bodies sheet c) h in
+    let q : isSome (getD (layout (sceneOf sheet c)) i none) ≡ moves rels i b = layout-moves rels 0 0 (sceneOf sheet c .bodies) i b l ∙ (λ j. moves rels (zero-add i j) (body-is sheet c i b h j)) in
+    let t = unnamed-test (b .fixed) (moves rels i b) (firstUnknown (getD (c .index) i 0)) (ap isSome (sym (laid .index i h)) ∙ q) in
+    rw add-one (ap (unnamedFrom rels i) (bodies-next sheet c i h) ∙ ap (λ (k : ℕ). k + unnamedFrom rels (suc i) (drop (suc i) (sceneOf sheet c .bodies))) t)
+
+pub unnamed-done : (sheet : List ℕ) (c : SceneStruct) (i : ℕ) → i ≡ c .m → restUnnamed sheet c i ≡ 0
+unfolding unnamedFrom
+unnamed-done sheet c i e = ap (unnamedFrom (sceneOf sheet c .rels) i) (drop-whole (sceneOf sheet c .bodies) i (length-bodies sheet c ∙ sym e))
+
+pub unnamed-small : (fixed : Bool) (k : Option ℕ) → unnamedOne fixed k ≤ 6
+unfolding unnamedOne
+unnamed-small true none = omega arith
+unnamed-small false none = omega arith
+unnamed-small fixed (some k) = omega arith
+
+-- ---- all
+
+-- the unknowns and their copy are zeros
+pub zeros-twice : (s s1 s2 : List Float) (x y n : ℕ) → x + n ≤ y → Put s s1 x n (zeros n) → Put s1 s2 y n (zeros n) → part s2 y n ≡ part s2 x n
+zeros-twice s s1 s2 x y n h a b = b .holds ∙ sym (kept-part-below s1 s2 y (y + n) x n h (b .kept) ∙ a .holds)
+
+pub total-is : (sheet : List ℕ) (c : SceneStruct) (s s1 s2 s3 : List Float) (x y rank unused : ℕ) → Laid sheet c → x + c .n ≤ y
+    → Put s s1 x (c .n) (zeros (c .n)) → Put s1 s2 y (c .n) (zeros (c .n))
+    → SlopesBy (scaledRows (sceneOf sheet c)) s2 s3 0 (c .n) (c .rows) x
+    → rank ≡ rankRel (part s3 0 (c .rows * c .n)) (c .rows) (c .n)
+    → unused ≡ unnamedFrom (sceneOf sheet c .rels) 0 (sceneOf sheet c .bodies)
+    → c .n - min rank (c .n) + unused ≡ totalFreedom (sceneOf sheet c)
+unfolding totalFreedom
+total-is sheet c s s1 s2 s3 x y rank unused laid h a b d r u =
+    let sc = sceneOf sheet c in
+    let zeros-at : part s2 x (c .n) ≡ zeros (c .n) = kept-part-below s1 s2 y (y + c .n) x (c .n) h (b .kept) ∙ a .holds in
+    let jac : part s3 0 (c .rows * c .n) ≡ jacobian (scaledRows sc) (zeros (c .n)) (c .rows) = d .holds ∙ ap (λ (w : List Float). jacobian (scaledRows sc) w (c .rows)) zeros-at in
+    let n-is : c .n ≡ unknowns sc = laid .unknown-count in
+    let rows-is : c .rows ≡ length (scaledRows sc (zeros (unknowns sc))) = sym (laid .row-count _) in
+    (λ j. c .n - min ((r ∙ ap (λ (w : List Float). rankRel w (c .rows) (c .n)) jac) j) (c .n) + u j)
+    ∙ (λ j. n-is j - min (rankRel (jacobian (scaledRows sc) (zeros (n-is j)) (rows-is j)) (rows-is j) (n-is j)) (n-is j) + unnamedFrom (sc .rels) 0 (sc .bodies))

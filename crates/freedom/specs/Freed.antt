@@ -1,0 +1,28 @@
+-- What `dof` leaves in the slice that it fills: 29 doubles a body. A longer slice keeps its rest. Document 01, "The sheet". Definitions only.
+use Prim.Native.Nat.{ℕ, _+_, _*_}
+use mathlib.Core.Path.{_≡_}
+use mathlib.Core.List.{List, _++_}
+use lib.ListN.{length, drop}
+use lib.Ieee.{Float}
+use Rattle.solver.specs.Scene.{Put, posesIn}
+use Rattle.solver.specs.Solve.{Scene}
+use Rattle.solver.specs.Dof.{Freedom, dof}
+use Rattle.solver.specs.declared.scene.Scene.{Scene as SceneStruct}
+use Rattle.freedom.specs.Layout.{freedomDoubles, freedomsDoubles}
+use Rattle.freedom.specs.BodySlopes.{starts}
+
+-- the doubles of scratch that document 01 counts: R·n+2n²+8R+8n+32m
+abbrev pub need : SceneStruct → ℕ
+need c = c .rows * c .n + 2 * (c .n * c .n) + 8 * c .rows + 8 * c .n + 32 * c .m
+
+-- the freedom of body i has been filled in; the starting poses still stand in scratch
+pub record BodyFreed (sc : Scene) (s t : List Float) (p m i : ℕ) (d e : List Float) (f : Freedom) : Type 0 where
+  pub size : length t ≡ length s
+  pub poses : posesIn t p m ≡ starts sc
+  pub filled : Put d e (29 * i) 29 (freedomDoubles f)
+
+-- the slice at entry and at exit, of a scene with m bodies
+pub record Freed (sc : Scene) (m : ℕ) (s t freedoms freedoms' : List Float) (total : ℕ) : Type 0 where
+  pub size : length t ≡ length s
+  pub freedoms-are : freedoms' ≡ freedomsDoubles (dof sc .bodies) ++ drop (29 * m) freedoms
+  pub total-is : total ≡ dof sc .total

@@ -1,0 +1,313 @@
+// `dof` of solve.rs, the whole assembly: the rank of the slopes of all rows along all unknowns, over parts of the lent scratch. `specs/Total.antt` has the definitions.
+
+ghost use mathlib.Core.Path.{_≡_};
+ghost use Prim.Native.Nat.{_+_, _*_, _≤_, _<_};
+ghost use lib.ListN.{length, getD};
+ghost use Rattle.numbers.specs.Double.{zero64};
+ghost use Rattle.solver.specs.Dof as dof;
+ghost use Rattle.solver.specs.Memory.{part};
+ghost use Rattle.solver.specs.Record.{bodyAt};
+ghost use Rattle.solver.specs.Scene.{Laid, sceneOf, firstUnknown, Put};
+ghost use Rattle.solver.specs.Solve.{layout, halfSize};
+ghost use Rattle.freedom.specs.Total as spec;
+use crate::values::values;
+use solver::lm::copy;
+use solver::record;
+use solver::scene::Scene;
+use solver::scene::half_size;
+use solver::scene::rows_at;
+use solver::slopes::put_column;
+use solver::slopes::step_of;
+use vectors::root::sqrt;
+use vectors::tol::DOF_REL;
+
+// The three doubles from o on over l.
+fn divide(s: &mut [f64], o: usize, l: f64)
+    requires { ⌜ o + 3 ≤ length (now s) ⌝ }
+    ensures { λ _. ⌜ now (s .exit) ≡ dof.scaleThree (now (s .entry)) o l ⌝ }
+{
+    let a = s[o];
+    let b = s[o + 1];
+    let c = s[o + 2];
+    s[o] = a / l;
+    s[o + 1] = b / l;
+    s[o + 2] = c / l;
+}
+
+// A body's turning unknowns over l, the n unknowns from z on; `first` is the body's entry of the index.
+fn scale_turns(s: &mut [f64], z: usize, n: usize, l: f64, first: u16)
+    requires { ⌜ z + n ≤ length (now s) ⌝ }
+    requires { ⌜ ((first ≡ 0xFFFF → ⊥) → first + 6 ≤ n) ⌝ }
+    ensures { λ _. ⌜ Put (now (s .entry)) (now (s .exit)) z n (spec.scaledBy (part (now (s .entry)) z n) l (firstUnknown first)) ⌝ }
+{
+    if first == 0xFFFF {
+        return;
+    }
+    let k = first as usize;
+    divide(s, z + k + 3, l);
+}
+
+// Body i's turning unknowns over half its size, the unknowns from z on.
+fn scale_body(sheet: &[u8], scene: Scene, s: &mut [f64], z: usize, i: usize)
+    requires { ⌜ Laid (now sheet) scene ⌝ }
+    requires { ⌜ i < scene .m ⌝ }
+    requires { ⌜ z + scene .n ≤ length (now s) ⌝ }
+    ensures { λ _. ⌜ Put (now (s .entry)) (now (s .exit)) z (scene .n) (spec.scaledBy (part (now (s .entry)) z (scene .n)) (halfSize (bodyAt (now (sheet .entry)) (scene .bodies + 136 * i) .size)) (firstUnknown (getD (scene .index) i 0))) ⌝ }
+{
+    let b = record::body_at(sheet, scene.bodies + 136 * i);
+    let l = half_size(b.size);
+    scale_turns(s, z, scene.n, l, scene.index[i]);
+}
+
+// Each moving body's turning unknowns over half its size.
+fn scale(sheet: &[u8], scene: Scene, s: &mut [f64], z: usize)
+    requires { ⌜ Laid (now sheet) scene ⌝ }
+    requires { ⌜ z + scene .n ≤ length (now s) ⌝ }
+    ensures { λ _. ⌜ Put (now (s .entry)) (now (s .exit)) z (scene .n) (dof.scaledFrom (part (now (s .entry)) z (scene .n)) (sceneOf (now (sheet .entry)) scene .bodies) (layout (sceneOf (now (sheet .entry)) scene))) ⌝ }
+{
+    let m = scene.m;
+    for i in 0..m {
+        scale_body(sheet, scene, s, z, i);
+    }
+}
+
+// The rows at the unknowns from x on, the turning ones scaled, to the places from r on; the scaled unknowns from z on, poses from p on.
+fn scaled_rows(sheet: &[u8], scene: Scene, s: &mut [f64], x: usize, z: usize, r: usize, p: usize)
+    requires { ⌜ Laid (now sheet) scene ⌝ }
+    requires { ⌜ x + scene .n ≤ z ⌝ }
+    requires { ⌜ z + scene .n ≤ r ⌝ }
+    requires { ⌜ r + scene .rows ≤ p ⌝ }
+    requires { ⌜ p + 12 * scene .m ≤ length (now s) ⌝ }
+    ensures { λ _. ⌜ spec.RowsBy (dof.scaledRows (sceneOf (now (sheet .entry)) scene)) (now (s .entry)) (now (s .exit)) x (scene .n) z r (scene .rows) ⌝ }
+{
+    copy(s, x, z, scene.n);
+    scale(sheet, scene, s, z);
+    rows_at(sheet, scene, s, z, r, p);
+}
+
+// Column c of the slopes at the unknowns from x on; y is a copy of the unknowns, in which the unknown c goes a step ahead and a step behind.
+fn slope_column(
+    sheet: &[u8],
+    scene: Scene,
+    s: &mut [f64],
+    j: usize,
+    x: usize,
+    y: usize,
+    z: usize,
+    a: usize,
+    b: usize,
+    p: usize,
+    c: usize,
+)
+    requires { ⌜ Laid (now sheet) scene ⌝ }
+    requires { ⌜ c < scene .n ⌝ }
+    requires { ⌜ j + scene .rows * scene .n ≤ x ⌝ }
+    requires { ⌜ x + scene .n ≤ y ⌝ }
+    requires { ⌜ y + scene .n ≤ z ⌝ }
+    requires { ⌜ z + scene .n ≤ a ⌝ }
+    requires { ⌜ a + scene .rows ≤ b ⌝ }
+    requires { ⌜ b + scene .rows ≤ p ⌝ }
+    requires { ⌜ p + 12 * scene .m ≤ length (now s) ⌝ }
+    requires { ⌜ part (now s) y (scene .n) ≡ part (now s) x (scene .n) ⌝ }
+    ensures { λ _. ⌜ spec.SlopeColumnBy (dof.scaledRows (sceneOf (now (sheet .entry)) scene)) (now (s .entry)) (now (s .exit)) j (scene .n) (scene .rows) x z c ⌝ }
+{
+    let v = s[x + c];
+    let h = step_of(v);
+    s[y + c] = v + h;
+    scaled_rows(sheet, scene, s, y, z, a, p);
+    s[y + c] = v - h;
+    scaled_rows(sheet, scene, s, y, z, b, p);
+    s[y + c] = v;
+    put_column(s, j, scene.n, scene.rows, c, a, b, h);
+}
+
+// The slopes of the scaled rows at the unknowns from x on, to the places from j on: scaled unknowns at z, rows ahead at a, rows behind at b, poses at p; y is a copy of the unknowns.
+fn slopes(
+    sheet: &[u8],
+    scene: Scene,
+    s: &mut [f64],
+    j: usize,
+    x: usize,
+    y: usize,
+    z: usize,
+    a: usize,
+    b: usize,
+    p: usize,
+)
+    requires { ⌜ Laid (now sheet) scene ⌝ }
+    requires { ⌜ j + scene .rows * scene .n ≤ x ⌝ }
+    requires { ⌜ x + scene .n ≤ y ⌝ }
+    requires { ⌜ y + scene .n ≤ z ⌝ }
+    requires { ⌜ z + scene .n ≤ a ⌝ }
+    requires { ⌜ a + scene .rows ≤ b ⌝ }
+    requires { ⌜ b + scene .rows ≤ p ⌝ }
+    requires { ⌜ p + 12 * scene .m ≤ length (now s) ⌝ }
+    requires { ⌜ part (now s) y (scene .n) ≡ part (now s) x (scene .n) ⌝ }
+    ensures { λ _. ⌜ spec.SlopesBy (dof.scaledRows (sceneOf (now (sheet .entry)) scene)) (now (s .entry)) (now (s .exit)) j (scene .n) (scene .rows) x ⌝ }
+{
+    let n = scene.n;
+    for c in 0..n {
+        slope_column(sheet, scene, s, j, x, y, z, a, b, p, c);
+    }
+}
+
+// k zeros from o on.
+fn clear(s: &mut [f64], o: usize, k: usize)
+    requires { ⌜ o + k ≤ length (now s) ⌝ }
+    ensures { λ _. ⌜ Put (now (s .entry)) (now (s .exit)) o k (dof.zeros k) ⌝ }
+{
+    for i in 0..k {
+        s[o + i] = 0.0;
+    }
+}
+
+// Column i times column j of the slopes in the first places, summed from -0.
+fn columns_times(s: &[f64], rows: usize, n: usize, i: usize, j: usize) -> f64
+    requires { ⌜ i < n ⌝ }
+    requires { ⌜ j < n ⌝ }
+    requires { ⌜ rows * n ≤ length (now s) ⌝ }
+    ensures { λ r. ⌜ r ≡ dof.columnsTimes (part (now (s .entry)) 0 (rows * n)) rows n i j ⌝ }
+{
+    let mut t = -0.0;
+    for r in 0..rows {
+        let o = r * n;
+        t = t + s[o + i] * s[o + j];
+    }
+    t
+}
+
+// Row i of the slopes' square, which stands at o.
+fn square_row(s: &mut [f64], rows: usize, n: usize, o: usize, i: usize)
+    requires { ⌜ i < n ⌝ }
+    requires { ⌜ rows * n ≤ o ⌝ }
+    requires { ⌜ o + n * n ≤ length (now s) ⌝ }
+    ensures { λ _. ⌜ spec.SquareRow (now (s .entry)) (now (s .exit)) rows n o i ⌝ }
+{
+    let at = o + i * n;
+    for k in 0..n {
+        let v = columns_times(s, rows, n, i, k);
+        s[at + k] = v;
+    }
+}
+
+// The square of the slopes in the first places: each column times each, to the places from o on.
+fn square(s: &mut [f64], rows: usize, n: usize, o: usize)
+    requires { ⌜ rows * n ≤ o ⌝ }
+    requires { ⌜ o + n * n ≤ length (now s) ⌝ }
+    ensures { λ _. ⌜ Put (now (s .entry)) (now (s .exit)) o (n * n) (dof.squareOf (part (now (s .entry)) 0 (rows * n)) rows n) ⌝ }
+{
+    for i in 0..n {
+        square_row(s, rows, n, o, i);
+    }
+}
+
+// The largest of the values, from 0 up.
+fn largest(vals: &[f64]) -> f64
+    ensures { λ r. ⌜ r ≡ spec.largestOf zero64 (now (vals .entry)) ⌝ }
+{
+    let mut m = 0.0;
+    for i in 0..vals.len() {
+        m = numbers::max(m, vals[i]);
+    }
+    m
+}
+
+// 1 for a value whose root is above DOF_REL of the largest.
+fn stiff_one(most: f64, v: f64) -> usize
+    ensures { λ r. ⌜ r ≡ spec.stiffOne most v ⌝ }
+{
+    if DOF_REL * most < sqrt(numbers::max(v, 0.0)) {
+        1
+    } else {
+        0
+    }
+}
+
+// How many values count.
+fn stiff_count(most: f64, vals: &[f64]) -> usize
+    ensures { λ r. ⌜ r ≡ spec.stiffOf most (now (vals .entry)) ⌝ }
+{
+    let mut count = 0;
+    for i in 0..vals.len() {
+        count = count + stiff_one(most, vals[i]);
+    }
+    count
+}
+
+// The rank by the eigenvalues.
+fn rank_of(vals: &[f64]) -> usize
+    ensures { λ r. ⌜ r ≡ spec.rankOf (now (vals .entry)) ⌝ }
+{
+    let most = sqrt(largest(vals));
+    if most <= 0.0 {
+        return 0;
+    }
+    stiff_count(most, vals)
+}
+
+// `rank_rel` of the slopes in the first places; their square and its values stand behind them.
+fn rank_rel(s: &mut [f64], rows: usize, n: usize) -> usize
+    requires { ⌜ rows * n + n * n + n ≤ length (now s) ⌝ }
+    ensures { λ r. ⌜ r ≡ dof.rankRel (part (now (s .entry)) 0 (rows * n)) rows n ⌝ }
+{
+    if rows == 0 {
+        return 0;
+    }
+    if n == 0 {
+        return 0;
+    }
+    let o = rows * n;
+    let v = o + n * n;
+    let e = v + n;
+    square(s, rows, n, o);
+    values(&mut s[o..e], n);
+    rank_of(&s[v..e])
+}
+
+// 6 for a free body that no relation names, by its entry of the index.
+fn unnamed_one(fixed: bool, first: u16) -> usize
+    ensures { λ r. ⌜ r ≡ spec.unnamedOne fixed (firstUnknown first) ⌝ }
+{
+    if first == 0xFFFF {
+        if fixed { 0 } else { 6 }
+    } else {
+        0
+    }
+}
+
+// Six for each free body that no relation names.
+fn unnamed(sheet: &[u8], scene: Scene) -> usize
+    requires { ⌜ Laid (now sheet) scene ⌝ }
+    ensures { λ r. ⌜ (r ≡ dof.unnamedFrom (sceneOf (now (sheet .entry)) scene .rels) 0 (sceneOf (now (sheet .entry)) scene .bodies)) × (r ≤ 384) ⌝ }
+{
+    let m = scene.m;
+    let mut count = 0;
+    for i in 0..m {
+        let b = record::body_at(sheet, scene.bodies + 136 * i);
+        count = count + unnamed_one(b.fixed, scene.index[i]);
+    }
+    count
+}
+
+// The freedom of the whole assembly: the unknowns that no row resists, and six for each free body that no relation names.
+pub fn total(sheet: &[u8], scene: Scene, s: &mut [f64]) -> usize
+    requires { ⌜ Laid (now sheet) scene ⌝ }
+    requires { ⌜ (scene .rows ≤ 896) × (scene .n ≤ 384) ⌝ }
+    requires { ⌜ scene .rows * scene .n + 2 * (scene .n * scene .n) + 8 * scene .rows + 8 * scene .n + 32 * scene .m ≤ length (now s) ⌝ }
+    ensures { λ r. ⌜ (r ≡ dof.totalFreedom (sceneOf (now (sheet .entry)) scene)) × (length (now (s .exit)) ≡ length (now (s .entry))) ⌝ }
+{
+    let n = scene.n;
+    let rows = scene.rows;
+    let x = rows * n + n * n + n;
+    let y = x + n;
+    let z = y + n;
+    let a = z + n;
+    let b = a + rows;
+    let p = b + rows;
+    clear(s, x, n);
+    clear(s, y, n);
+    slopes(sheet, scene, s, 0, x, y, z, a, b, p);
+    let rank = rank_rel(s, rows, n);
+    let unused = unnamed(sheet, scene);
+    if rank < n { n - rank + unused } else { unused }
+}

@@ -1,0 +1,4 @@
+pub mod TrialLaws
+pub mod RoundLaws
+pub mod NearLaws
+pub mod SolveLaws

@@ -1,0 +1,363 @@
+-- Lists written to the front of a slice, and what `solve` keeps of its runs. Assumes nothing.
+use mathlib.Core.Path.{_≡_, refl, sym, ap, subst, _∙_}
+use mathlib.Core.Bool.{Bool, true, false, _||_, cond}
+use mathlib.Core.List.{List, [], _∷_, _++_, map, map-append, append-assoc, append-nil}
+use mathlib.Core.Option.{Option}
+use Prim.Native.Nat.{ℕ, zero, suc, _+_, _*_, _-_, _≤_, _<_}
+use native.Mathlib.Omega.{arith}
+use native.Mathlib.Numerals.{add-one}
+use borrow.Author.Tests.{eq-eqb, ne-eqb}
+use lib.ListN.{length, getD, set, take, drop, length-set, length-take, length-drop}
+use lib.Seq.{take-suc, take-add, take-all, getD-drop, getD-take, ext-getD}
+use lib.Dec.{eqb}
+use lib.Ieee.{Float, nan, lt}
+use Rattle.numbers.specs.MaxAbs.{maxAbs}
+use Rattle.vectors.specs.Tol.{ASSEMBLY}
+use Rattle.vectors.specs.Vec.{Vec}
+use Rattle.vectors.specs.Space.{Frame}
+use Rattle.vectors.specs.Math.{frameOf}
+use Rattle.solver.specs.Geometry.{Pose, frameOr}
+use Rattle.solver.specs.Model.{Body, Rel}
+use Rattle.solver.specs.Lm.{listOf, inverseWeight, Outcome, run}
+use Rattle.solver.specs.LmPosts.{Copied}
+use Rattle.solver.specs.Memory.{part}
+use Rattle.solver.specs.Record.{bodyAt, relAt, sceneIn}
+use Rattle.solver.specs.Rows as Rows
+use Rattle.solver.specs.Scene.{Put, RowsAt, sceneOf, vecDoubles, poseIn, posesIn, posesDoubles, relRows}
+use Rattle.solver.specs.Solve.{Scene, layout, unknowns, posesAt, rowsAt, rowsOf, weights, startAt, slightTurn, MAX-ITER, runFrom, better, solved, solve, frameAt, framesFrom}
+use Rattle.solver.specs.CountLaws.{rows-packed}
+use Rattle.solver.specs.declared.rows.Rows.{Rows as RowsStruct}
+use Rattle.solver.specs.declared.scene.Scene.{Scene as SceneStruct}
+use Rattle.solver.proofs.MemoryLaws.{kept-refl, kept-part-below, kept-part-above}
+use Rattle.solver.proofs.TableLaws.{length-listOf}
+use Rattle.solver.proofs.SceneLaws.{put-one, put-then, rel-small, poses-there, length-poses, length-layout, length-bodies, drop-whole}
+use Rattle.placement.specs.Answer.{frameDoubles, framesDoubles, Worst, Ended, Filled}
+use Rattle.placement.specs.Places.{Arranged}
+use Rattle.placement.specs.Rounds.{weightsIn, unknownsIn, firstIn, Ran}
+use Rattle.placement.specs.declared.places.Places.{Places as PlacesStruct}
+
+-- ---- lists written double by double
+
+pub put-none : (s : List Float) (o : ℕ) → Put s s o 0 []
+put-none s o = record { holds = refl; kept = kept-refl s o (o + 0) }
+
+pub put-entry : (s t : List Float) (o i q : ℕ) (v : Float) (a b : List Float) → q ≡ o + i → q < length t → a ++ (v ∷ []) ≡ b → Put s t o i a → Put s (set t q v) o (i + 1) b
+put-entry s t o i q v a b e h f y = subst (λ (w : List Float). Put s (set t q v) o (i + 1) w) f (put-then s t (set t q v) o i q 1 a (v ∷ []) e y (put-one t q v h))
+
+pub list-none : {A : Type 0} (f : ℕ → A) → listOf f 0 ≡ []
+unfolding listOf
+list-none f = refl
+
+pub list-more : {A : Type 0} (f : ℕ → A) (i : ℕ) (v : A) → v ≡ f i → listOf f i ++ (v ∷ []) ≡ listOf f (i + 1)
+unfolding listOf
+list-more f i v e = ap (λ w. listOf f i ++ (w ∷ [])) e ∙ ap (listOf f) (sym (add-one i))
+
+pub part-more : (s : List Float) (o i : ℕ) (d : Float) → o + i < length s → part s o i ++ (getD s (o + i) d ∷ []) ≡ part s o (i + 1)
+part-more s o i d h =
+    let l : i < length (drop o s) = simp length-drop (omega arith) in
+    ap (λ (w : Float). take i (drop o s) ++ (w ∷ [])) (sym (getD-drop o s i d)) ∙ sym (take-suc (drop o s) i d l) ∙ ap (λ (w : ℕ). take w (drop o s)) (sym (add-one i))
+
+-- a list at the front of a slice: the rest is as it was
+pub put-front : (s t : List Float) (k : ℕ) (l : List Float) → Put s t 0 k l → t ≡ l ++ drop k s
+put-front s t k l y =
+    let e : 0 + k ≡ k = omega arith in
+    let a : drop k t ≡ drop k s = subst (λ (w : ℕ). drop w t ≡ drop w s) e (y .kept .above) in
+    let h : length t ≤ k + (length t - k) = omega arith in
+    let r : length (drop k t) ≤ length t - k = simp length-drop (omega arith) in
+    sym (take-all (k + (length t - k)) t h) ∙ take-add k (length t - k) t ∙ ap (λ (w : List Float). take k t ++ w) (take-all (length t - k) (drop k t) r ∙ a)
+    ∙ ap (λ (w : List Float). w ++ drop k s) (y .holds)
+
+-- three doubles at o, q and r
+abbrev pub set-three : List Float → ℕ → ℕ → ℕ → Vec Float → List Float
+set-three s o q r v = set (set (set s o (v .x)) q (v .y)) r (v .z)
+
+put-three : (s : List Float) (o q r : ℕ) (v : Vec Float) → q ≡ o + 1 → r ≡ o + 2 → o + 3 ≤ length s → Put s (set-three s o q r v) o 3 (vecDoubles v)
+put-three s o q r v e f h =
+    put-then s _ _ o 2 r 1 _ _ f (put-then s _ _ o 1 q 1 _ _ e (put-one s o (v .x) (omega arith)) (put-one _ q (v .y) (simp length-set (omega arith))))
+    (put-one _ r (v .z) (simp length-set (omega arith)))
+
+-- a frame, double by double
+pub put-frame-is : (s : List Float) (o : ℕ) (f : Frame) → o + 12 ≤ length s
+    → Put s
+    (set-three (set-three (set-three (set-three s o (o + 1) (o + 2) (f .origin)) (o + 3) (o + 4) (o + 5) (f .x)) (o + 6) (o + 7) (o + 8) (f .y)) (o + 9) (o + 10) (o + 11) (f .z))
+    o
+    12
+    (frameDoubles f)
+put-frame-is s o f h =
+    let s1 = set-three s o (o + 1) (o + 2) (f .origin) in
+    let s2 = set-three s1 (o + 3) (o + 4) (o + 5) (f .x) in
+    let s3 = set-three s2 (o + 6) (o + 7) (o + 8) (f .y) in
+    let s4 = set-three s3 (o + 9) (o + 10) (o + 11) (f .z) in
+    let a : Put s s1 o 3 (vecDoubles (f .origin)) = put-three s o (o + 1) (o + 2) (f .origin) refl refl (omega arith) in
+    let l : length s1 ≡ length s = a .kept .size in
+    let b : Put s1 s2 (o + 3) 3 (vecDoubles (f .x)) = put-three s1 (o + 3) (o + 4) (o + 5) (f .x) (omega arith) (omega arith) (omega arith) in
+    let m : length s2 ≡ length s1 = b .kept .size in
+    let c : Put s2 s3 (o + 6) 3 (vecDoubles (f .y)) = put-three s2 (o + 6) (o + 7) (o + 8) (f .y) (omega arith) (omega arith) (omega arith) in
+    let n : length s3 ≡ length s2 = c .kept .size in
+    let d : Put s3 s4 (o + 9) 3 (vecDoubles (f .z)) = put-three s3 (o + 9) (o + 10) (o + 11) (f .z) (omega arith) (omega arith) (omega arith) in
+    put-then s s3 s4 o 9 (o + 9) 3 _ _ refl (put-then s s2 s3 o 6 (o + 6) 3 _ _ refl (put-then s s1 s2 o 3 (o + 3) 3 _ _ refl a b) c) d
+
+-- ---- errors
+
+-- the error of relation j at these poses
+abbrev pub errorAt : List ℕ → SceneStruct → List (Pose Float) → ℕ → Float
+errorAt sheet c poses j = maxAbs (relRows sheet c poses j)
+
+map-list : {A B : Type 0} (g : A → B) (f : ℕ → A) (n : ℕ) → map g (listOf f n) ≡ listOf (λ i. g (f i)) n
+unfolding listOf
+map-list g f zero = refl
+map-list g f (suc n) = map-append g (listOf f n) (f n ∷ []) ∙ ap (λ l. l ++ (g (f n) ∷ [])) (map-list g f n)
+
+pub errors-are : (sheet : List ℕ) (c : SceneStruct) (poses : List (Pose Float))
+    → listOf (errorAt sheet c poses) (c .k) ≡ map (λ (rel : Rel). maxAbs (rowsAt poses rel)) (sceneOf sheet c .rels)
+unfolding sceneIn
+errors-are sheet c poses = sym (map-list (λ (rel : Rel). maxAbs (rowsAt poses rel)) (λ j. relAt sheet (c .rels + 264 * j)) (c .k))
+
+pub error-is : (sheet : List ℕ) (c : SceneStruct) (poses : List (Pose Float)) (j : ℕ) (rel : Rel) (r : RowsStruct) (e : Float) → rel ≡ relAt sheet (c .rels + 264 * j)
+    → r ≡ Rows.pack (rowsAt poses rel) → e ≡ maxAbs (Rows.rowsOf r) → e ≡ errorAt sheet c poses j
+error-is sheet c poses j rel r e a b d =
+    let q : r ≡ Rows.pack (relRows sheet c poses j) = b ∙ ap (λ (w : Rel). Rows.pack (rowsAt poses w)) a in
+    d ∙ ap (λ (w : RowsStruct). maxAbs (Rows.rowsOf w)) q ∙ ap maxAbs (rows-packed (relRows sheet c poses j) (rel-small sheet c poses j))
+
+-- ---- frames
+
+-- the frame of body i at the poses from p on
+abbrev pub frameIn : List ℕ → SceneStruct → List Float → ℕ → ℕ → Frame
+frameIn sheet c s p i = frameAt (poseIn s (p + 12 * i)) (bodyAt sheet (c .bodies + 136 * i))
+
+frames-append : (a b : List Frame) → framesDoubles (a ++ b) ≡ framesDoubles a ++ framesDoubles b
+unfolding framesDoubles
+frames-append [] b = refl
+frames-append (f ∷ a) b = ap (λ (w : List Float). frameDoubles f ++ w) (frames-append a b) ∙ sym (append-assoc (frameDoubles f) (framesDoubles a) (framesDoubles b))
+
+pub frames-none : (f : ℕ → Frame) → framesDoubles (listOf f 0) ≡ []
+unfolding framesDoubles listOf
+frames-none f = refl
+
+frames-one : (f : Frame) → framesDoubles (f ∷ []) ≡ frameDoubles f
+unfolding framesDoubles
+frames-one f = append-nil (frameDoubles f)
+
+pub frames-more : (f : ℕ → Frame) (i : ℕ) → framesDoubles (listOf f i) ++ frameDoubles (f i) ≡ framesDoubles (listOf f (i + 1))
+frames-more f i =
+    ap (λ (w : List Float). framesDoubles (listOf f i) ++ w) (sym (frames-one (f i))) ∙ sym (frames-append (listOf f i) (f i ∷ [])) ∙ ap framesDoubles (list-more f i (f i) refl)
+
+frames-snoc : (q : Pose Float) (b : Body) (poses : List (Pose Float)) (bodies : List Body) → length poses ≡ length bodies
+    → framesFrom (poses ++ (q ∷ [])) (bodies ++ (b ∷ [])) ≡ framesFrom poses bodies ++ (frameAt q b ∷ [])
+unfolding framesFrom
+frames-snoc q b [] [] e = refl
+frames-snoc q b [] (d ∷ bodies) e = absurd (omega arith)
+frames-snoc q b (p ∷ poses) [] e = absurd (omega arith)
+frames-snoc q b (p ∷ poses) (d ∷ bodies) e = ap (λ (l : List Frame). frameAt p d ∷ l) (frames-snoc q b poses bodies (omega arith))
+
+frames-list : (f : ℕ → Pose Float) (g : ℕ → Body) (n : ℕ) → framesFrom (listOf f n) (listOf g n) ≡ listOf (λ i. frameAt (f i) (g i)) n
+unfolding listOf framesFrom
+frames-list f g zero = refl
+frames-list f g (suc n) =
+    frames-snoc (f n) (g n) (listOf f n) (listOf g n) (length-listOf f n ∙ sym (length-listOf g n))
+    ∙ ap (λ (l : List Frame). l ++ (frameAt (f n) (g n) ∷ [])) (frames-list f g n)
+
+pub frames-are : (sheet : List ℕ) (c : SceneStruct) (s : List Float) (p : ℕ) → listOf (frameIn sheet c s p) (c .m) ≡ framesFrom (posesIn s p (c .m)) (sceneOf sheet c .bodies)
+unfolding sceneIn
+frames-are sheet c s p = sym (frames-list (λ i. poseIn s (p + 12 * i)) (λ i. bodyAt sheet (c .bodies + 136 * i)) (c .m))
+
+pub frame-at-is : (q q' : Pose Float) (b b' : Body) (m : Option Frame) (w : Frame) → q ≡ q' → b ≡ b' → m ≡ frameOf (q .r) (q .t) → w ≡ frameOr m (b .frame) → w ≡ frameAt q' b'
+frame-at-is q q' b b' m w e f g h = h ∙ ap (λ (n : Option Frame). frameOr n (b .frame)) g ∙ (λ z. frameAt (e z) (f z))
+
+pub frames-step : (sheet : List ℕ) (c : SceneStruct) (s d e u : List Float) (p i : ℕ) (w : Frame) → w ≡ frameIn sheet c s p i
+    → Put d e 0 (12 * i) (framesDoubles (listOf (frameIn sheet c s p) i)) → Put e u (12 * i) 12 (frameDoubles w)
+    → Put d u 0 (12 * (i + 1)) (framesDoubles (listOf (frameIn sheet c s p) (i + 1)))
+frames-step sheet c s d e u p i w h x y =
+    let z : Put e u (12 * i) 12 (frameDoubles (frameIn sheet c s p i)) = subst (λ (f : Frame). Put e u (12 * i) 12 (frameDoubles f)) h y in
+    let v = put-then d e u 0 (12 * i) (12 * i) 12 _ _ (omega arith) x z in
+    let n : 12 * i + 12 ≡ 12 * (i + 1) = omega arith in
+    subst (λ (k : ℕ). Put d u 0 k (framesDoubles (listOf (frameIn sheet c s p) (i + 1)))) n
+    (subst (λ (l : List Float). Put d u 0 (12 * i + 12) l) (frames-more (frameIn sheet c s p) i) v)
+
+-- ---- the largest row
+
+pub worst-is : (sc : Scene) (c : SceneStruct) (p : PlacesStruct) (s t : List Float) (x : ℕ) (r : Float) → RowsAt sc s t x (c .n) (p .ahead) (c .rows) (p .poses)
+    → r ≡ maxAbs (part t (p .ahead) (c .rows)) → Worst sc c p s t x r
+worst-is sc c p s t x r y e = record { told = e ∙ ap maxAbs (y .holds); size = y .size; below = ext-getD nan (take (p .ahead) t) (take (p .ahead) s) lengths at }
+  where
+    lengths : length (take (p .ahead) t) ≡ length (take (p .ahead) s)
+    lengths = simp length-take (omega (arith, y .size))
+
+    at : (i : ℕ) → i < length (take (p .ahead) t) → getD (take (p .ahead) t) i nan ≡ getD (take (p .ahead) s) i nan
+    at i l =
+        let h : i < p .ahead = omega (arith, simp length-take at l) in
+        getD-take (p .ahead) t i nan h ∙ y .below i h ∙ sym (getD-take (p .ahead) s i nan h)
+
+-- ---- the retry
+
+pub arranged-same : (c : SceneStruct) (p : PlacesStruct) (m n : ℕ) → m ≡ n → Arranged c p n → Arranged c p m
+arranged-same c p m n e a = subst (λ (k : ℕ). Arranged c p k) (sym e) a
+
+-- what stands below `ahead` is as it was
+worst-part : (sc : Scene) (c : SceneStruct) (p : PlacesStruct) (s t : List Float) (x : ℕ) (r : Float) (o k : ℕ) → o + k ≤ p .ahead → Worst sc c p s t x r → part t o k ≡ part s o k
+worst-part sc c p s t x r o k h y =
+    kept-part-below s t (p .ahead) (length s) o k h
+    (record { size = y .size; below = y .below; above = drop-whole t (length s) (y .size) ∙ sym (drop-whole s (length s) refl) })
+
+abbrev pub retryOf : Scene → SceneStruct → PlacesStruct → List Float → Outcome
+retryOf sc c p s = run (rowsOf sc) (weightsIn c p s) ASSEMBLY MAX-ITER (listOf slightTurn (c .n))
+
+-- the second run has ended, from the scratch s of the first run's end
+pub record Again (sc : Scene) (c : SceneStruct) (p : PlacesStruct) (s t : List Float) (ok : Bool) : Type 0 where
+  pub told : ok ≡ retryOf sc c p s .converged
+  pub unknowns-are : unknownsIn c p t ≡ retryOf sc c p s .x
+  pub first : firstIn c p t ≡ unknownsIn c p s
+  pub size : length t ≡ length s
+
+pub again-is : (sc : Scene) (c : SceneStruct) (p : PlacesStruct) (s t u v : List Float) (ok : Bool) → Arranged c p (length s) → Copied s t (p .x) (p .first) (c .n)
+    → Put t u (p .x) (c .n) (listOf slightTurn (c .n)) → Ran c p u v (run (rowsOf sc) (weightsIn c p u) ASSEMBLY MAX-ITER (unknownsIn c p u)) ok → Again sc c p s v ok
+again-is sc c p s t u v ok a d y r =
+    let w : weightsIn c p u ≡ weightsIn c p s
+    = kept-part-below t u (p .x) (p .x + c .n) (p .weights) (c .n) (a .weights) (y .kept)
+    ∙ kept-part-below s t (p .first) (p .first + c .n) (p .weights) (c .n) (omega (arith, a .weights, a .x)) (d .kept) in
+    let o : run (rowsOf sc) (weightsIn c p u) ASSEMBLY MAX-ITER (unknownsIn c p u) ≡ retryOf sc c p s = λ z. run (rowsOf sc) (w z) ASSEMBLY MAX-ITER (y .holds z) in
+    record {
+      told = r .told ∙ ap (λ (q : Outcome). q .converged) o;
+      unknowns-are = r .unknowns ∙ ap (λ (q : Outcome). q .x) o;
+      first = r .keeps .first ∙ kept-part-above t u (p .x) (p .x + c .n) (p .first) (c .n) (a .x) (y .kept) ∙ d .copy;
+      size = r .keeps .size ∙ y .kept .size ∙ d .kept .size;
+    }
+
+better-converged : (sc : Scene) (first retry : Outcome) → retry .converged ≡ true → better sc first retry ≡ retry
+unfolding better
+better-converged sc first retry h = rw h
+
+better-smaller : (sc : Scene) (first retry : Outcome) (a b : Float) (t : Bool) → retry .converged ≡ false → a ≡ maxAbs (rowsOf sc (retry .x)) → b ≡ maxAbs (rowsOf sc (first .x)) → lt a b ≡ t
+    → better sc first retry ≡ cond t retry first
+unfolding better
+better-smaller sc first retry a b t h e f g = rw (h, ← e, ← f, g)
+
+module _ (sc : Scene) (c : SceneStruct) (p : PlacesStruct) (s v : List Float) (ok : Bool) (first : Outcome) (a : Again sc c p s v ok) where
+  pub retry-converged : ok ≡ true → Ended c p s v (better sc first (retryOf sc c p s)) true
+  retry-converged h =
+      let k : retryOf sc c p s .converged ≡ true = sym (a .told) ∙ h in
+      let b = better-converged sc first (retryOf sc c p s) k in
+      record { told = sym k ∙ ap (λ (q : Outcome). q .converged) (sym b); unknowns = a .unknowns-are ∙ ap (λ (q : Outcome). q .x) (sym b); size = a .size }
+
+  module _ (w z : List Float) (now before : Float) (f : Arranged c p (length s)) (h : ok ≡ false) (e : first .x ≡ unknownsIn c p s) (m : Worst sc c p v w (p .x) now)
+      (n : Worst sc c p w z (p .first) before) where
+    same-first : part z (p .first) (c .n) ≡ first .x
+    same-first =
+        worst-part sc c p w z (p .first) before (p .first) (c .n) (omega (arith, f .first, f .rows, f .next)) n ∙ worst-part sc c p v w (p .x) now (p .first) (c .n) (omega (arith, f .first, f .rows, f .next)) m
+        ∙ a .first
+        ∙ sym e
+
+    kept : (t : Bool) → lt now before ≡ t → better sc first (retryOf sc c p s) ≡ cond t (retryOf sc c p s) first
+    kept t g =
+        better-smaller sc first (retryOf sc c p s) now before t (sym (a .told) ∙ h) (m .told ∙ ap (λ (q : List Float). maxAbs (rowsOf sc q)) (a .unknowns-are))
+        (n .told
+        ∙ ap (λ (q : List Float). maxAbs (rowsOf sc q)) (worst-part sc c p v w (p .x) now (p .first) (c .n) (omega (arith, f .first, f .rows, f .next)) m ∙ a .first ∙ sym e))
+        g
+
+    pub retry-smaller : lt now before ≡ true → Ended c p s z (better sc first (retryOf sc c p s)) false
+    retry-smaller g =
+        let b = kept true g in
+        record {
+          told = sym h ∙ a .told ∙ ap (λ (q : Outcome). q .converged) (sym b);
+          unknowns =
+              worst-part sc c p w z (p .first) before (p .x) (c .n) (omega (arith, f .x, f .first, f .rows, f .next)) n
+              ∙ worst-part sc c p v w (p .x) now (p .x) (c .n) (omega (arith, f .x, f .first, f .rows, f .next)) m
+              ∙ a .unknowns-are
+              ∙ ap (λ (q : Outcome). q .x) (sym b);
+          size = n .size ∙ m .size ∙ a .size;
+        }
+
+    pub retry-larger : (y : List Float) → first .converged ≡ false → lt now before ≡ false → Copied z y (p .first) (p .x) (c .n) → Ended c p s y (better sc first (retryOf sc c p s)) false
+    retry-larger y u g d =
+        let b = kept false g in
+        record {
+          told = sym u ∙ ap (λ (q : Outcome). q .converged) (sym b);
+          unknowns = d .copy ∙ same-first ∙ ap (λ (q : Outcome). q .x) (sym b);
+          size = d .kept .size ∙ n .size ∙ m .size ∙ a .size;
+        }
+
+-- ---- both runs
+
+abbrev pub firstOf : Scene → Option ℕ → Outcome
+firstOf sc drag = runFrom sc drag (listOf startAt (unknowns sc))
+
+-- the first run has ended
+pub record Begun (sc : Scene) (c : SceneStruct) (p : PlacesStruct) (drag : Option ℕ) (s t : List Float) (ok : Bool) : Type 0 where
+  pub told : ok ≡ firstOf sc drag .converged
+  pub unknowns-are : unknownsIn c p t ≡ firstOf sc drag .x
+  pub weights-are : weightsIn c p t ≡ map inverseWeight (weights sc drag)
+  pub size : length t ≡ length s
+
+pub begun-is : (sc : Scene) (c : SceneStruct) (p : PlacesStruct) (drag : Option ℕ) (s t u v : List Float) (ok : Bool) → c .n ≡ unknowns sc → Arranged c p (length s)
+    → Put s t (p .weights) (c .n) (map inverseWeight (weights sc drag)) → Put t u (p .x) (c .n) (listOf startAt (c .n))
+    → Ran c p u v (run (rowsOf sc) (weightsIn c p u) ASSEMBLY MAX-ITER (unknownsIn c p u)) ok → Begun sc c p drag s v ok
+begun-is sc c p drag s t u v ok k a d y r =
+    let w : weightsIn c p u ≡ map inverseWeight (weights sc drag) = kept-part-below t u (p .x) (p .x + c .n) (p .weights) (c .n) (a .weights) (y .kept) ∙ d .holds in
+    let x : unknownsIn c p u ≡ listOf startAt (unknowns sc) = y .holds ∙ ap (listOf startAt) k in
+    let o : run (rowsOf sc) (weightsIn c p u) ASSEMBLY MAX-ITER (unknownsIn c p u) ≡ firstOf sc drag = λ z. run (rowsOf sc) (w z) ASSEMBLY MAX-ITER (x z) in
+    record {
+      told = r .told ∙ ap (λ (q : Outcome). q .converged) o;
+      unknowns-are = r .unknowns ∙ ap (λ (q : Outcome). q .x) o;
+      weights-are = r .keeps .weights ∙ w;
+      size = r .keeps .size ∙ y .kept .size ∙ d .kept .size;
+    }
+
+-- by whether the first run is all
+abbrev chosen : Scene → Option ℕ → Bool → Outcome
+chosen sc drag t = elim t [ true ↦ firstOf sc drag | false ↦ better sc (firstOf sc drag) (runFrom sc drag (listOf slightTurn (unknowns sc))) ]
+
+solved-by : (sc : Scene) (drag : Option ℕ) (a b : Bool) → firstOf sc drag .converged ≡ a → eqb (unknowns sc) 0 ≡ b → solved sc drag ≡ chosen sc drag (a || b)
+unfolding solved
+solved-by sc drag a b h e = λ z. chosen sc drag (h z || e z)
+
+solved-converged : (sc : Scene) (drag : Option ℕ) → firstOf sc drag .converged ≡ true → solved sc drag ≡ firstOf sc drag
+solved-converged sc drag h = solved-by sc drag true (eqb (unknowns sc) 0) h refl
+
+solved-none : (sc : Scene) (drag : Option ℕ) → firstOf sc drag .converged ≡ false → unknowns sc ≡ 0 → solved sc drag ≡ firstOf sc drag
+solved-none sc drag h e = solved-by sc drag false true h (eq-eqb (unknowns sc) 0 e)
+
+solved-twice : (sc : Scene) (drag : Option ℕ) → firstOf sc drag .converged ≡ false → (unknowns sc ≡ 0 → ⊥)
+    → solved sc drag ≡ better sc (firstOf sc drag) (runFrom sc drag (listOf slightTurn (unknowns sc)))
+solved-twice sc drag h e = solved-by sc drag false false h (ne-eqb (unknowns sc) 0 e)
+
+module _ (sc : Scene) (c : SceneStruct) (p : PlacesStruct) (drag : Option ℕ) (s v : List Float) (ok : Bool) (k : c .n ≡ unknowns sc) (b : Begun sc c p drag s v ok) where
+  first-ended : (t : Bool) → ok ≡ t → solved sc drag ≡ firstOf sc drag → Ended c p s v (solved sc drag) t
+  first-ended t h e =
+      record { told = sym h ∙ b .told ∙ ap (λ (q : Outcome). q .converged) (sym e); unknowns = b .unknowns-are ∙ ap (λ (q : Outcome). q .x) (sym e); size = b .size }
+
+  pub first-converged : ok ≡ true → Ended c p s v (solved sc drag) true
+  first-converged h = first-ended true h (solved-converged sc drag (sym (b .told) ∙ h))
+
+  pub first-still : ok ≡ false → c .n ≡ 0 → Ended c p s v (solved sc drag) false
+  first-still h e = first-ended false h (solved-none sc drag (sym (b .told) ∙ h) (sym k ∙ e))
+
+  pub twice : (w : List Float) (again : Bool) → ok ≡ false → (c .n ≡ 0 → ⊥)
+      → ((first : Outcome) → first .converged ≡ false → first .x ≡ unknownsIn c p v → Ended c p v w (better sc first (retryOf sc c p v)) again) → Ended c p s w (solved sc drag) again
+  twice w again h e f =
+      let y = f (firstOf sc drag) (sym (b .told) ∙ h) (sym (b .unknowns-are)) in
+      let o : better sc (firstOf sc drag) (retryOf sc c p v) ≡ solved sc drag
+      = (λ z. better sc (firstOf sc drag) (run (rowsOf sc) (b .weights-are z) ASSEMBLY MAX-ITER (listOf slightTurn (k z)))) ∙ sym (solved-twice sc drag (sym (b .told) ∙ h) (λ q. e (k ∙ q))) in
+      record { told = y .told ∙ ap (λ (q : Outcome). q .converged) o; unknowns = y .unknowns ∙ ap (λ (q : Outcome). q .x) o; size = y .size ∙ b .size }
+
+-- ---- what `solve` fills in
+
+pub filled-is : (sheet : List ℕ) (c : SceneStruct) (p : PlacesStruct) (drag : Option ℕ) (s t u poses poses' frames frames' errors errors' : List Float) (ok : Bool)
+    → Ended c p s t (solved (sceneOf sheet c) drag) ok → Put t u (p .poses) (12 * c .m) (posesDoubles (posesAt (sceneOf sheet c) (part t (p .x) (c .n))))
+    → poses' ≡ part u (p .poses) (12 * c .m) ++ drop (12 * c .m) poses
+    → frames' ≡ framesDoubles (framesFrom (posesIn u (p .poses) (c .m)) (sceneOf sheet c .bodies)) ++ drop (12 * c .m) frames
+    → errors' ≡ map (λ (rel : Rel). maxAbs (rowsAt (posesIn u (p .poses) (c .m)) rel)) (sceneOf sheet c .rels) ++ drop (c .k) errors
+    → Filled (sceneOf sheet c) drag (c .m) (c .k) poses poses' frames frames' errors errors' ok
+unfolding solve
+filled-is sheet c p drag s t u poses poses' frames frames' errors errors' ok a y d f e =
+    let sc = sceneOf sheet c in
+    let there : List (Pose Float) = posesAt sc (solved sc drag .x) in
+    let h : part u (p .poses) (12 * c .m) ≡ posesDoubles there = y .holds ∙ ap (λ (x : List Float). posesDoubles (posesAt sc x)) (a .unknowns) in
+    let l : length there ≡ c .m
+    = length-poses (solved sc drag .x) (sc .bodies) (layout sc) (length-layout (sc .rels) 0 0 (sc .bodies)) ∙ length-bodies sheet c in
+    let q : posesIn u (p .poses) (c .m) ≡ there = poses-there u (p .poses) (12 * c .m) there h (ap (λ (w : ℕ). 12 * w) l) (c .m) l in
+    record {
+      poses-are = d ∙ ap (λ (w : List Float). w ++ drop (12 * c .m) poses) h;
+      frames-are = f ∙ ap (λ (w : List (Pose Float)). framesDoubles (framesFrom w (sc .bodies)) ++ drop (12 * c .m) frames) q;
+      errors-are = e ∙ ap (λ (w : List (Pose Float)). map (λ (rel : Rel). maxAbs (rowsAt w rel)) (sc .rels) ++ drop (c .k) errors) q;
+      converged = a .told;
+    }

@@ -1,0 +1,83 @@
+-- `placement::solve::solve` meets its contract. Assumes nothing.
+use native.Mathlib.Omega.{arith}
+use borrow.Author.Needs.{needs}
+use Rattle.solver.specs.Model.{bodyNumber}
+use Rattle.placement.proofs.SolveLaws.{filled-is}
+use Rattle.placement.proofs.solve.solve.Statement.{statement}
+use Rattle.placement.proofs.solve.solve.Tie as tie
+
+arrange-requires : tie.Need-arrange-requires
+arrange-requires c κs = search needs
+
+solved-requires : tie.Need-solved-requires
+solved-requires c κs =
+    let f = c .before .before .before .before .before .before .before .pre in
+    (f .0, (c .before .arrange .ensures _ (f .1 .1 .0), f .1 .0 .1))
+
+poses-at-requires : tie.Need-poses-at-requires
+poses-at-requires c κs =
+    let f = c .before .before .before .before .before .before .before .before .before .before .before .pre in
+    let a = c .before .before .before .before .before .arrange .ensures _ (f .1 .1 .0) in
+    let z = c .before .before .before .solved .ensures .size in
+    (f .0, (omega arith, omega arith))
+
+mul-copy-out : tie.Need-mul-copy-out
+mul-copy-out c = search needs
+
+copy-out-requires : tie.Need-copy-out-requires
+copy-out-requires c κs =
+    let f = c .before .before .before .before .before .before .before .before .before .before .before .before .before .before .before .before .before .pre in
+    let a = c .before .before .before .before .before .before .before .before .before .before .before .arrange .ensures _ (f .1 .1 .0) in
+    let z = c .before .before .before .before .before .before .before .before .before .solved .ensures .size in
+    let y = c .before .before .before .before .before .poses-at .ensures .kept .size in
+    (omega (arith, a .poses, z, y), f .1 .1 .1 .0)
+
+put-frames-requires : tie.Need-put-frames-requires
+put-frames-requires c κs =
+    let f = c .before .before .before .before .before .before .before .before .before .before .before .before .before .before .before .before .before .before .before .before .before .before .pre in
+    let a = c .before .before .before .before .before .before .before .before .before .before .before .before .before .before .before .before .arrange .ensures _ (f .1 .1 .0) in
+    let z = c .before .before .before .before .before .before .before .before .before .before .before .before .before .before .solved .ensures .size in
+    let y = c .before .before .before .before .before .before .before .before .before .before .poses-at .ensures .kept .size in
+    (f .0, (omega (arith, a .poses, z, y), f .1 .1 .1 .1 .0))
+
+put-errors-requires : tie.Need-put-errors-requires
+put-errors-requires c κs =
+    let f = c .before .before .before .before .before .before .before .before .before .before .before .before .before .before .before .before .before .before .before .before .before .before .before .before .before .before .before .pre in
+    let a = c .before .before .before .before .before .before .before .before .before .before .before .before .before .before .before .before .before .before .before .before .before .arrange .ensures _ (f .1 .1 .0) in
+    let z = c .before .before .before .before .before .before .before .before .before .before .before .before .before .before .before .before .before .before .before .solved .ensures .size in
+    let y = c .before .before .before .before .before .before .before .before .before .before .before .before .before .before .before .poses-at .ensures .kept .size in
+    (f .0, (omega (arith, a .poses, z, y), f .1 .1 .1 .1 .1))
+
+same-length : tie.Need-same-length
+same-length c = search needs
+
+same-length-2 : tie.Need-same-length-2
+same-length-2 c = search needs
+
+same-length-3 : tie.Need-same-length-3
+same-length-3 c = search needs
+
+same-length-4 : tie.Need-same-length-4
+same-length-4 c = search needs
+
+returns : tie.Need-returns
+returns c =
+    let g = c .before .before .before .before .before .before .before .before .before .before .before .before .before .before .before .before .before .before .before .before .before .before .before .before .before .before .before .before .before .before .args in
+    filled-is (g .sheet .now) (g .scene) _ (bodyNumber (g .drag)) _ _ _ _ _ _ _ _ _ _ (c .before .before .before .before .before .before .before .before .before .before .before .before .before .before .before .before .before .before .before .before .before .before .solved .ensures) (c .before .before .before .before .before .before .before .before .before .before .before .before .before .before .before .before .before .before .poses-at .ensures) (c .before .before .before .before .before .before .before .before .before .before .before .before .copy-out .ensures) (c .before .before .before .before .before .before .before .put-frames .ensures) (c .before .before .put-errors .ensures)
+
+pub solve-spec : {M : Type 1} → statement M
+solve-spec =
+    tie.close
+    (tie.spec
+    arrange-requires
+    solved-requires
+    poses-at-requires
+    mul-copy-out
+    copy-out-requires
+    put-frames-requires
+    put-errors-requires
+    same-length
+    same-length-2
+    same-length-3
+    same-length-4
+    returns)

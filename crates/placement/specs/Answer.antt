@@ -1,0 +1,44 @@
+-- What `solve` leaves in the slices that it fills: P and the frames, 12 doubles a body, and an error for each relation. A longer slice keeps its rest. Document 01, "The
+-- sheet". Definitions only.
+use Prim.Native.Nat.{ℕ, _+_, _*_, _<_}
+use mathlib.Core.Path.{_≡_}
+use mathlib.Core.Bool.{Bool}
+use mathlib.Core.List.{List, [], _∷_, _++_, map}
+use mathlib.Core.Option.{Option}
+use lib.ListN.{length, drop, take}
+use lib.Ieee.{Float}
+use Rattle.numbers.specs.MaxAbs.{maxAbs}
+use Rattle.vectors.specs.Space.{Frame}
+use Rattle.solver.specs.Lm.{Outcome}
+use Rattle.solver.specs.Memory.{part}
+use Rattle.solver.specs.Scene.{vecDoubles, posesDoubles}
+use Rattle.solver.specs.Solve.{Scene, rowsOf, solved, solve}
+use Rattle.solver.specs.declared.scene.Scene.{Scene as SceneStruct}
+use Rattle.placement.specs.declared.places.Places.{Places as PlacesStruct}
+
+-- a frame: origin, x, y, z
+abbrev pub frameDoubles : Frame → List Float
+frameDoubles f = vecDoubles (f .origin) ++ (vecDoubles (f .x) ++ (vecDoubles (f .y) ++ vecDoubles (f .z)))
+
+unfoldable pub framesDoubles : List Frame → List Float
+framesDoubles [] = []
+framesDoubles (f ∷ frames) = frameDoubles f ++ framesDoubles frames
+
+-- the largest row at the unknowns from x on, told; below `ahead` nothing has changed
+pub record Worst (sc : Scene) (c : SceneStruct) (p : PlacesStruct) (s t : List Float) (x : ℕ) (worst : Float) : Type 0 where
+  pub told : worst ≡ maxAbs (rowsOf sc (part s x (c .n)))
+  pub size : length t ≡ length s
+  pub below : take (p .ahead) t ≡ take (p .ahead) s
+
+-- the runs have ended as o says: its unknowns stand at `x`, and ok says whether it converged
+pub record Ended (c : SceneStruct) (p : PlacesStruct) (s t : List Float) (o : Outcome) (ok : Bool) : Type 0 where
+  pub told : ok ≡ o .converged
+  pub unknowns : part t (p .x) (c .n) ≡ o .x
+  pub size : length t ≡ length s
+
+-- the slices at entry and at exit, of a scene with m bodies and k relations
+pub record Filled (sc : Scene) (drag : Option ℕ) (m k : ℕ) (poses poses' frames frames' errors errors' : List Float) (ok : Bool) : Type 0 where
+  pub poses-are : poses' ≡ posesDoubles (solve sc drag .poses) ++ drop (12 * m) poses
+  pub frames-are : frames' ≡ framesDoubles (solve sc drag .frames) ++ drop (12 * m) frames
+  pub errors-are : errors' ≡ solve sc drag .errors ++ drop k errors
+  pub converged : ok ≡ solve sc drag .converged

@@ -1,0 +1,219 @@
+// solve.rs, `solve`: the first run, the retry from a slight turn, poses, frames and errors. The solver's `specs/Solve.antt` has the definitions, `specs/Answer.antt` what
+// stands in the slices.
+
+ghost use mathlib.Core.Path.{_≡_};
+ghost use mathlib.Core.Bool.{false};
+ghost use mathlib.Core.List.{List, _++_, map};
+ghost use Prim.Native.Nat.{ℕ, _+_, _*_, _≤_, _<_};
+ghost use lib.ListN.{length, drop};
+ghost use Rattle.numbers.specs.MaxAbs.{maxAbs};
+ghost use Rattle.vectors.specs.Space as space;
+ghost use Rattle.vectors.specs.Tol as tolerances;
+ghost use Rattle.solver.specs.Lm as lm;
+ghost use Rattle.solver.specs.Memory.{part};
+ghost use Rattle.solver.specs.Model.{bodyNumber};
+ghost use Rattle.solver.specs.Scene.{Laid, Put, sceneOf, posesIn};
+ghost use Rattle.solver.specs.Solve as definitions;
+ghost use Rattle.placement.specs.Places.{Arranged, need};
+ghost use Rattle.placement.specs.Rounds as rounds_spec;
+ghost use Rattle.placement.specs.Answer as spec;
+use crate::places::Places;
+use crate::places::arrange;
+use crate::rounds::run;
+use crate::trial::copy_back;
+use crate::trial::largest;
+use solver::geometry::frame_or;
+use solver::lm::copy;
+use solver::model::Place;
+use solver::record::body_at;
+use solver::record::rel_at;
+use solver::scene::Scene;
+use solver::scene::inverse_weights;
+use solver::scene::pose_at;
+use solver::scene::poses_at;
+use solver::scene::rel_rows;
+use solver::scene::rows_at;
+use vectors::math::frame_of;
+use vectors::space::Frame;
+
+// The unknowns at first: all 0.
+fn put_start(s: &mut [f64], x: usize, n: usize)
+    requires { ⌜ x + n ≤ length (now s) ⌝ }
+    ensures { λ _. ⌜ Put (now (s .entry)) (now (s .exit)) x n (lm.listOf definitions.startAt n) ⌝ }
+{
+    for i in 0..n {
+        s[x + i] = 0.0;
+    }
+}
+
+// The unknown i of the retry.
+fn slight_turn(i: usize) -> f64
+    ensures { λ r. ⌜ r ≡ definitions.slightTurn i ⌝ }
+{
+    if i % 6 < 3 {
+        return 0.0;
+    }
+    if i % 3 == 0 {
+        return 0.05;
+    }
+    if i % 3 == 1 {
+        return -0.03;
+    }
+    0.07
+}
+
+// The unknowns of the retry.
+fn put_turn(s: &mut [f64], x: usize, n: usize)
+    requires { ⌜ x + n ≤ length (now s) ⌝ }
+    ensures { λ _. ⌜ Put (now (s .entry)) (now (s .exit)) x n (lm.listOf definitions.slightTurn n) ⌝ }
+{
+    for i in 0..n {
+        s[x + i] = slight_turn(i);
+    }
+}
+
+// The largest row at the unknowns from x on.
+fn worst(sheet: &[u8], scene: Scene, s: &mut [f64], p: Places, x: usize) -> f64
+    requires { ⌜ Laid (now sheet) scene ⌝ }
+    requires { ⌜ Arranged scene p (length (now s)) ⌝ }
+    requires { ⌜ x + scene .n ≤ p .ahead ⌝ }
+    ensures { λ r. ⌜ spec.Worst (sceneOf (now (sheet .entry)) scene) scene p (now (s .entry)) (now (s .exit)) x r ⌝ }
+{
+    rows_at(sheet, scene, s, x, p.ahead, p.poses);
+    largest(s, p.ahead, scene.rows)
+}
+
+// The retry, the first run having ended unconverged at the unknowns at `x`. Whether it converged; it is kept then, or if its largest row is smaller.
+fn retry(sheet: &[u8], scene: Scene, s: &mut [f64], p: Places) -> bool
+    requires { ⌜ Laid (now sheet) scene ⌝ }
+    requires { ⌜ Arranged scene p (length (now s)) ⌝ }
+    requires { ⌜ scene .n ≤ 384 ⌝ }
+    ensures { λ ok. ⌜ ((first : lm.Outcome) → first .converged ≡ false → first .x ≡ rounds_spec.unknownsIn scene p (now (s .entry)) → spec.Ended scene p (now (s .entry)) (now (s .exit)) (definitions.better (sceneOf (now (sheet .entry)) scene) first (lm.run (definitions.rowsOf (sceneOf (now (sheet .entry)) scene)) (rounds_spec.weightsIn scene p (now (s .entry))) tolerances.ASSEMBLY definitions.MAX-ITER (lm.listOf definitions.slightTurn (scene .n)))) ok) ⌝ }
+{
+    copy(s, p.x, p.first, scene.n);
+    put_turn(s, p.x, scene.n);
+    let again = run(sheet, scene, s, p);
+    if again {
+        return true;
+    }
+    let now = worst(sheet, scene, s, p, p.x);
+    let before = worst(sheet, scene, s, p, p.first);
+    if now < before {
+        return false;
+    }
+    copy_back(s, p.first, p.x, scene.n);
+    false
+}
+
+// Both runs. Whether the one that is kept converged.
+fn solved(sheet: &[u8], scene: Scene, s: &mut [f64], p: Places, drag: Place) -> bool
+    requires { ⌜ Laid (now sheet) scene ⌝ }
+    requires { ⌜ Arranged scene p (length (now s)) ⌝ }
+    requires { ⌜ scene .n ≤ 384 ⌝ }
+    ensures { λ ok. ⌜ spec.Ended scene p (now (s .entry)) (now (s .exit)) (definitions.solved (sceneOf (now (sheet .entry)) scene) (bodyNumber drag)) ok ⌝ }
+{
+    let n = scene.n;
+    inverse_weights(sheet, scene, s, p.weights, drag);
+    put_start(s, p.x, n);
+    let converged = run(sheet, scene, s, p);
+    if converged {
+        return true;
+    }
+    if n == 0 {
+        return false;
+    }
+    retry(sheet, scene, s, p)
+}
+
+// The first k doubles of d, from the k of s from o on.
+fn copy_out(s: &[f64], o: usize, d: &mut [f64], k: usize)
+    requires { ⌜ o + k ≤ length (now s) ⌝ }
+    requires { ⌜ k ≤ length (now d) ⌝ }
+    ensures { λ _. ⌜ now (d .exit) ≡ part (now (s .entry)) o k ++ drop k (now (d .entry)) ⌝ }
+{
+    for i in 0..k {
+        d[i] = s[o + i];
+    }
+}
+
+fn put_frame(d: &mut [f64], o: usize, f: Frame)
+    requires { ⌜ o + 12 ≤ length (now d) ⌝ }
+    ensures { λ _. ⌜ Put (now (d .entry)) (now (d .exit)) o 12 (spec.frameDoubles (space.frame f)) ⌝ }
+{
+    let origin = f.origin;
+    let x = f.x;
+    let y = f.y;
+    let z = f.z;
+    d[o] = origin.x;
+    d[o + 1] = origin.y;
+    d[o + 2] = origin.z;
+    d[o + 3] = x.x;
+    d[o + 4] = x.y;
+    d[o + 5] = x.z;
+    d[o + 6] = y.x;
+    d[o + 7] = y.y;
+    d[o + 8] = y.z;
+    d[o + 9] = z.x;
+    d[o + 10] = z.y;
+    d[o + 11] = z.z;
+}
+
+// Each body's frame at the poses from p on, squared anew; the body's own where none can be built.
+fn put_frames(sheet: &[u8], scene: Scene, s: &[f64], p: usize, frames: &mut [f64])
+    requires { ⌜ Laid (now sheet) scene ⌝ }
+    requires { ⌜ p + 12 * scene .m ≤ length (now s) ⌝ }
+    requires { ⌜ 12 * scene .m ≤ length (now frames) ⌝ }
+    ensures { λ _. ⌜ now (frames .exit) ≡ spec.framesDoubles (definitions.framesFrom (posesIn (now (s .entry)) p (scene .m)) (sceneOf (now (sheet .entry)) scene .bodies)) ++ drop (12 * scene .m) (now (frames .entry)) ⌝ }
+{
+    let m = scene.m;
+    for i in 0..m {
+        let b = body_at(sheet, scene.bodies + 136 * i);
+        let q = pose_at(s, p + 12 * i);
+        let r = q.r;
+        let t = q.t;
+        let own = b.frame;
+        put_frame(frames, 12 * i, frame_or(frame_of(r, t), own));
+    }
+}
+
+// Each relation's largest row at the poses from p on.
+fn put_errors(sheet: &[u8], scene: Scene, s: &[f64], p: usize, errors: &mut [f64])
+    requires { ⌜ Laid (now sheet) scene ⌝ }
+    requires { ⌜ p + 12 * scene .m ≤ length (now s) ⌝ }
+    requires { ⌜ scene .k ≤ length (now errors) ⌝ }
+    ensures { λ _. ⌜ now (errors .exit) ≡ map (λ rel. maxAbs (definitions.rowsAt (posesIn (now (s .entry)) p (scene .m)) rel)) (sceneOf (now (sheet .entry)) scene .rels) ++ drop (scene .k) (now (errors .entry)) ⌝ }
+{
+    let m = scene.m;
+    let k = scene.k;
+    for j in 0..k {
+        let rel = rel_at(sheet, scene.rels + 264 * j);
+        errors[j] = rel_rows(s, p, m, rel).max_abs();
+    }
+}
+
+// `solve`: 12 doubles a body to `poses` and to `frames`, an error for each relation to `errors`. Whether it converged.
+pub fn solve(
+    sheet: &[u8],
+    scene: Scene,
+    s: &mut [f64],
+    drag: Place,
+    poses: &mut [f64],
+    frames: &mut [f64],
+    errors: &mut [f64],
+) -> bool
+    requires { ⌜ Laid (now sheet) scene ⌝ }
+    requires { ⌜ (scene .rows ≤ 896) × (scene .n ≤ 384) ⌝ }
+    requires { ⌜ need scene ≤ length (now s) ⌝ }
+    requires { ⌜ 12 * scene .m ≤ length (now poses) ⌝ }
+    requires { ⌜ 12 * scene .m ≤ length (now frames) ⌝ }
+    requires { ⌜ scene .k ≤ length (now errors) ⌝ }
+    ensures { λ ok. ⌜ spec.Filled (sceneOf (now (sheet .entry)) scene) (bodyNumber drag) (scene .m) (scene .k) (now (poses .entry)) (now (poses .exit)) (now (frames .entry)) (now (frames .exit)) (now (errors .entry)) (now (errors .exit)) ok ⌝ }
+{
+    let p = arrange(scene);
+    let converged = solved(sheet, scene, s, p, drag);
+    poses_at(sheet, scene, s, p.x, p.poses);
+    copy_out(s, p.poses, poses, 12 * scene.m);
+    put_frames(sheet, scene, s, p.poses, frames);
+    put_errors(sheet, scene, s, p.poses, errors);
+    converged
+}

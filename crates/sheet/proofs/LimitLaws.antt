@@ -1,0 +1,121 @@
+-- Every relation of a sheet that passes is within the limits that the row bound asks for: the tests read each double that a relation has, and more. Assumes nothing.
+use mathlib.Core.Path.{_≡_, refl, sym, ap, subst, _∙_}
+use mathlib.Core.Logic.{inl, inr}
+use mathlib.Core.Bool.{Bool, true, false, _&&_, cond}
+use mathlib.Core.List.{List}
+use Prim.Native.Nat.{ℕ, zero, suc, _+_, _*_, _<_}
+use native.Mathlib.Nat.{not-suc-le-zero, le-of-suc-le-suc, eq-or-lt-of-le}
+use native.Mathlib.Omega.{arith}
+use lib.ListN.{length, getD}
+use lib.Dec.{T}
+use lib.Ieee.{Float}
+use lib.Ieee.Bits.{is-true}
+use lib.Ieee.Fits.{and-l, and-r}
+use Rattle.vectors.specs.Vec.{Vec}
+use Rattle.solver.specs.Model.{Rel}
+use Rattle.solver.specs.Record.{byteAt, doubleAt, vecAt, primAt, endAt, lawBy, relAt, sceneIn}
+use Rattle.solver.specs.RowBound.{SHEET-LIMIT, UNIT-LIMIT, upTo, upToV, smallGeo, smallEnd, smallLaw, smallRel}
+use Rattle.solver.proofs.TableLaws.{length-listOf, getD-listOf}
+use Rattle.sheet.specs.Format.{bodiesOf, relationsOf, relStart, sceneAt}
+use Rattle.sheet.specs.Refusals.{NEAR-ONE, THOUSAND, orElse, within, withinV, endLimits, relShape, relNames, relLimits, headerFault, bodiesFault, relFault, relsFault, sheetFault}
+use Rattle.sheet.proofs.RefusalLaws.{none-of}
+
+-- ---- from the tests to the limits of the row bound
+
+both : (a b : Bool) → T a → T b → T (a && b)
+both true b s t = t
+both false b s t = absurd s
+
+number-small : (limit x : Float) → T (within limit x) → T (upTo limit x)
+unfolding within upTo
+number-small limit x t = t
+
+vector-small : (limit : Float) (v : Vec Float) → T (withinV limit v) → T (upToV limit v)
+unfolding withinV within upToV
+vector-small limit v t = t
+
+prim-small : (n : ℕ) (p d : Vec Float) (r : Float) → T (upToV SHEET-LIMIT p) → T (upToV UNIT-LIMIT d) → T (upTo SHEET-LIMIT r) → T (smallGeo (primAt n p d r))
+unfolding primAt smallGeo
+prim-small zero p d r h k l = both (upToV SHEET-LIMIT p) (upToV UNIT-LIMIT d) h k
+prim-small (suc zero) p d r h k l = both (upToV SHEET-LIMIT p) (upToV UNIT-LIMIT d) h k
+prim-small (suc (suc zero)) p d r h k l = h
+prim-small (suc (suc (suc n))) p d r h k l = both (upToV SHEET-LIMIT p) _ h (both (upToV UNIT-LIMIT d) (upTo SHEET-LIMIT r) k l)
+
+end-small : (s : List ℕ) (e : ℕ) → T (endLimits s e) → T (smallEnd (endAt s e))
+unfolding endLimits smallEnd endAt
+end-small s e t =
+    let t1 = and-r (withinV THOUSAND (vecAt s (e + 8))) _ t in
+    let t2 = and-r (withinV NEAR-ONE (vecAt s (e + 32))) _ t1 in
+    both (smallGeo (endAt s e .prim)) (upTo SHEET-LIMIT (doubleAt s (e + 64)))
+    (prim-small (byteAt s e) (vecAt s (e + 8)) (vecAt s (e + 32)) (doubleAt s (e + 56)) (vector-small THOUSAND (vecAt s (e + 8)) (and-l (withinV THOUSAND (vecAt s (e + 8))) _ t))
+    (vector-small NEAR-ONE (vecAt s (e + 32)) (and-l (withinV NEAR-ONE (vecAt s (e + 32))) _ t1))
+    (number-small THOUSAND (doubleAt s (e + 56)) (and-l (within THOUSAND (doubleAt s (e + 56))) _ t2)))
+    (number-small THOUSAND (doubleAt s (e + 64)) (and-r (within THOUSAND (doubleAt s (e + 56))) _ t2))
+
+module _ (s : List ℕ) (r : ℕ) where
+  law-small : (n : ℕ) → T (upTo SHEET-LIMIT (doubleAt s (r + 8))) → T (upTo SHEET-LIMIT (doubleAt s (r + 16))) → T (upToV UNIT-LIMIT (vecAt s (r + 24))) → T (smallEnd (endAt s (r + 192)))
+      → T (smallLaw (lawBy n s r))
+  unfolding lawBy smallLaw
+  law-small zero off want reference p = off
+  law-small (suc zero) off want reference p = off
+  law-small (suc (suc zero)) off want reference p = both (upTo SHEET-LIMIT (doubleAt s (r + 16))) (upToV UNIT-LIMIT (vecAt s (r + 24))) want reference
+  law-small (suc (suc (suc zero))) off want reference p = off
+  law-small (suc (suc (suc (suc zero)))) off want reference p = off
+  law-small (suc (suc (suc (suc (suc zero))))) off want reference p = p
+  law-small (suc (suc (suc (suc (suc (suc n)))))) off want reference p = both (upTo SHEET-LIMIT (doubleAt s (r + 8))) (upTo SHEET-LIMIT (doubleAt s (r + 16))) off want
+
+  pub rel-small : relLimits s r ≡ true → smallRel (relAt s r) ≡ true
+  unfolding relLimits smallRel relAt
+  rel-small h =
+      let t : T (relLimits s r) = subst (λ (b : Bool). T b) (sym h) tt in
+      let t1 = and-r (within THOUSAND (doubleAt s (r + 8))) _ t in
+      let t2 = and-r (within THOUSAND (doubleAt s (r + 16))) _ t1 in
+      let t3 = and-r (withinV NEAR-ONE (vecAt s (r + 24))) _ t2 in
+      let t4 = and-r (endLimits s (r + 48)) _ t3 in
+      is-true (smallRel (relAt s r))
+      (both (smallLaw (lawBy (byteAt s r) s r)) _
+      (law-small (byteAt s r) (number-small THOUSAND (doubleAt s (r + 8)) (and-l (within THOUSAND (doubleAt s (r + 8))) _ t))
+      (number-small THOUSAND (doubleAt s (r + 16)) (and-l (within THOUSAND (doubleAt s (r + 16))) _ t1))
+      (vector-small NEAR-ONE (vecAt s (r + 24)) (and-l (withinV NEAR-ONE (vecAt s (r + 24))) _ t2)) (end-small s (r + 192) (and-r (endLimits s (r + 120)) _ t4)))
+      (both (smallEnd (endAt s (r + 48))) (smallEnd (endAt s (r + 120))) (end-small s (r + 48) (and-l (endLimits s (r + 48)) _ t3)) (end-small s (r + 120) (and-l (endLimits s (r + 120)) _ t4))))
+
+-- ---- every relation of the sheet
+
+last-test : (a b c : Bool) → _≡_ {A = ℕ} (cond a (cond b (cond c 0 7) 6) 5) 0 → c ≡ true
+last-test true true true h = refl
+last-test true true false h = absurd (let z : _≡_ {A = ℕ} 7 0 = h in omega arith)
+last-test true false c h = absurd (let z : _≡_ {A = ℕ} 6 0 = h in omega arith)
+last-test false b c h = absurd (let z : _≡_ {A = ℕ} 5 0 = h in omega arith)
+
+pub rel-passes : (s : List ℕ) (k : ℕ) → relsFault s k ≡ 0 → (j : ℕ) → j < k → relFault (bodiesOf s) s (relStart (bodiesOf s) j) ≡ 0
+unfolding relsFault
+rel-passes s zero h j l = absurd (not-suc-le-zero l)
+rel-passes s (suc k) h j l =
+    let p = none-of (relsFault s k) (relFault (bodiesOf s) s (relStart (bodiesOf s) k)) h in
+    let before = rel-passes s k (p .0) j in
+    elim (eq-or-lt-of-le (le-of-suc-le-suc l)) [
+      | inl e ↦ ap (λ (i : ℕ). relFault (bodiesOf s) s (relStart (bodiesOf s) i)) e ∙ p .1
+      | inr m ↦ before m
+    ]
+
+pub rel-limits : (s : List ℕ) → sheetFault s ≡ 0 → (j : ℕ) → j < relationsOf s → relLimits s (relStart (bodiesOf s) j) ≡ true
+unfolding sheetFault relFault
+rel-limits s h j l =
+    let p = none-of (headerFault s) (orElse (bodiesFault s (bodiesOf s)) (relsFault s (relationsOf s))) h .1 in
+    let q = none-of (bodiesFault s (bodiesOf s)) (relsFault s (relationsOf s)) p .1 in
+    let r = relStart (bodiesOf s) j in
+    last-test (relShape s r) (relNames (bodiesOf s) s r) (relLimits s r) (rel-passes s (relationsOf s) q j l)
+
+-- relation j of the scene is the one that the tests read
+pub rel-is : (s : List ℕ) (j : ℕ) (d : Rel) → j < relationsOf s → getD (sceneAt s .rels) j d ≡ relAt s (relStart (bodiesOf s) j)
+unfolding sceneIn
+rel-is s j d l =
+    let e : relStart (bodiesOf s) 0 + 264 * j ≡ relStart (bodiesOf s) j = omega arith in
+    getD-listOf (λ i. relAt s (relStart (bodiesOf s) 0 + 264 * i)) (relationsOf s) j d l ∙ ap (relAt s) e
+
+pub all-small : (s : List ℕ) → sheetFault s ≡ 0 → (j : ℕ) (d : Rel) → j < length (sceneAt s .rels) → smallRel (getD (sceneAt s .rels) j d) ≡ true
+unfolding sceneIn
+all-small s h j d l =
+    let q = length-listOf (λ i. relAt s (relStart (bodiesOf s) 0 + 264 * i)) (relationsOf s) in
+    let m : j < relationsOf s = omega arith in
+    ap smallRel (rel-is s j d m) ∙ rel-small s (relStart (bodiesOf s) j) (rel-limits s h j m)

@@ -1,0 +1,21 @@
+-- `sheet::lent::drag_fault` meets its contract. Assumes nothing.
+use native.Mathlib.Omega.{arith}
+use Rattle.sheet.proofs.CallLaws.{sheet-passes}
+use Rattle.sheet.proofs.LentLaws.{drag-none, drag-there, drag-missing}
+use Rattle.sheet.proofs.lent.drag_fault.Statement.{statement}
+use Rattle.sheet.proofs.lent.drag_fault.Tie as tie
+
+returns : tie.Need-returns
+returns c = drag-none (c .before .before .args .sheet .now) _ (c .if1 .taken)
+
+u16-at-requires : tie.Need-u16-at-requires
+u16-at-requires c κs = let z = sheet-passes (c .before .before .args .sheet .now) (c .before .before .pre) .header in omega arith
+
+returns-2 : tie.Need-returns-2
+returns-2 c = drag-there (c .before .before .before .before .args .sheet .now) _ _ (c .before .before .if1 .left) (c .before .u16-at .ensures .0) (c .if2 .taken)
+
+returns-3 : tie.Need-returns-3
+returns-3 c = drag-missing (c .before .before .before .before .args .sheet .now) _ _ (c .before .before .if1 .left) (c .before .u16-at .ensures .0) (c .if2 .left)
+
+pub drag-fault-spec : {M : Type 1} → statement M
+drag-fault-spec = tie.close (tie.spec returns u16-at-requires returns-2 returns-3)

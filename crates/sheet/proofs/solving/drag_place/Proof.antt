@@ -1,0 +1,14 @@
+-- `sheet::solving::drag_place` meets its contract. Assumes nothing.
+use borrow.Author.Needs.{needs}
+use Rattle.sheet.proofs.SolvingLaws.{drag-ground, drag-body}
+use Rattle.sheet.proofs.solving.drag_place.Statement.{statement}
+use Rattle.sheet.proofs.solving.drag_place.Tie as tie
+
+returns : tie.Need-returns
+returns c = drag-ground _ (c .if1 .taken)
+
+returns-2 : tie.Need-returns-2
+returns-2 c = drag-body _ (c .if1 .left)
+
+pub drag-place-spec : {M : Type 1} → statement M
+drag-place-spec = tie.close (tie.spec returns returns-2)

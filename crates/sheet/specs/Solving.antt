@@ -1,0 +1,45 @@
+-- What `solve` answers on a sheet that no test refuses, what then stands in each lent place, and how closely. Document 01, "What a call says", "The words of demand 3".
+-- Definitions only.
+use Prim.Native.Nat.{ℕ, _*_, _≤_}
+use mathlib.Core.Path.{_≡_}
+use mathlib.Core.Bool.{Bool, cond}
+use mathlib.Core.List.{List, _++_}
+use mathlib.Core.Option.{Option, none, some}
+use lib.ListN.{length, drop}
+use lib.Dec.{eqb}
+use lib.Ieee.{Float}
+use Rattle.solver.specs.Record.{GROUND}
+use Rattle.solver.specs.Scene.{posesDoubles}
+use Rattle.solver.specs.Solve.{Solution, MAX-ITER, solve}
+use Rattle.placement.specs.Answer.{framesDoubles}
+use Rattle.placement.specs.HowClosely.{HowClosely, roundsOf}
+use Rattle.sheet.specs.Format.{bodiesOf, relationsOf, sceneAt}
+use Rattle.sheet.specs.Refusals.{solveFault}
+
+-- the dragged body; 65535 is none
+unfoldable pub dragOf : ℕ → Option ℕ
+dragOf drag = cond (eqb drag GROUND) none (some drag)
+
+-- the answer of `solve` on an accepted sheet
+abbrev pub solutionOf : List ℕ → ℕ → Solution
+solutionOf s drag = solve (sceneAt s) (dragOf drag)
+
+-- a flag as a byte
+abbrev pub flagOf : Bool → ℕ
+flagOf b = cond b 1 0
+
+-- The promise: the number r, and the lent places at entry and at exit. What the scratch holds at entry has no say in it.
+pub record SolveAnswer (s : List ℕ) (drag r : ℕ) (scratch scratch' poses poses' frames frames' errors errors' : List Float) (flag flag' : ℕ) : Type 0 where
+  pub number : r ≡ solveFault s drag (length scratch) (length poses) (length frames) (length errors)
+  -- on refusal the same; else P, and a longer slice keeps its rest
+  pub poses-are : poses' ≡ cond (eqb r 0) (posesDoubles (solutionOf s drag .poses) ++ drop (12 * bodiesOf s) poses) poses
+  pub frames-are : frames' ≡ cond (eqb r 0) (framesDoubles (solutionOf s drag .frames) ++ drop (12 * bodiesOf s) frames) frames
+  pub errors-are : errors' ≡ cond (eqb r 0) (solutionOf s drag .errors ++ drop (relationsOf s) errors) errors
+  pub flag-is : flag' ≡ cond (eqb r 0) (flagOf (solutionOf s drag .converged)) flag
+  -- on acceptance any doubles may stand in scratch
+  pub scratch-kept : (r ≡ 0 → ⊥) → scratch' ≡ scratch
+  pub scratch-size : length scratch' ≡ length scratch
+  -- demand 3
+  pub closely : r ≡ 0 → HowClosely (sceneAt s) (solutionOf s drag)
+  -- demand 1: at most two runs of 200 rounds
+  pub rounds : roundsOf (sceneAt s) (dragOf drag) ≤ 2 * MAX-ITER

@@ -1,0 +1,58 @@
+// `solve` of a sheet, exported for C: 0, or the number of the test that refuses it; then nothing lent has changed. specs/Refusals.antt and specs/Solving.antt have the
+// definitions.
+
+use crate::figures::scene_in;
+use crate::lent::solve_fault;
+use placement::solve::solve;
+use solver::model::Place;
+ghost use mathlib.Core.Path.{_≡_};
+ghost use Rattle.solver.specs.Model.{bodyNumber};
+ghost use Rattle.sheet.specs.Solving as solving;
+
+// The dragged body; 65535 is none.
+fn drag_place(drag: u16) -> Place
+    ensures { λ r. ⌜ bodyNumber r ≡ solving.dragOf drag ⌝ }
+{
+    if drag == 0xFFFF {
+        return Place::Ground;
+    }
+    Place::Of(drag as usize)
+}
+
+// A flag as a byte.
+fn flag(ok: bool) -> u8
+    ensures { λ r. ⌜ r ≡ solving.flagOf ok ⌝ }
+{
+    if ok { 1 } else { 0 }
+}
+
+// Where each body stands, how far off each relation is, and whether all are within 1e-9.
+#[no_mangle]
+pub extern "C" fn sheet_solve(
+    sheet: &[u8],
+    drag: u16,
+    scratch: &mut [f64],
+    poses: &mut [f64],
+    frames: &mut [f64],
+    errors: &mut [f64],
+    converged: &mut u8,
+) -> u32
+    ensures { λ r. ⌜ solving.SolveAnswer (now (sheet .entry)) drag r (now (scratch .entry)) (now (scratch .exit)) (now (poses .entry)) (now (poses .exit)) (now (frames .entry)) (now (frames .exit)) (now (errors .entry)) (now (errors .exit)) (now (converged .entry)) (now (converged .exit)) ⌝ }
+{
+    let number = solve_fault(
+        sheet,
+        drag,
+        scratch.len(),
+        poses.len(),
+        frames.len(),
+        errors.len(),
+    );
+    if number == 0 {
+        let scene = scene_in(sheet);
+        let place = drag_place(drag);
+        let ok = solve(sheet, scene, scratch, place, poses, frames, errors);
+        *converged = flag(ok);
+        return 0;
+    }
+    number
+}
