@@ -111,6 +111,11 @@ pub fn arcs(n: usize) -> bool {
     };
     args::squares(&mut rng).into_iter().for_each(&mut one);
     (0..n).for_each(|_| one(args::square(&mut rng)));
+    // The root takes a shorter way near 1: every double there, and about the edges of that way.
+    for near in [1.0f64, 0.99999999, 1.00000001] {
+        (0..20_000).for_each(|i| one(f64::from_bits(near.to_bits() - 10_000 + i)));
+    }
+    (0..n / 10).for_each(|_| one(1.0 + rng.range(-1.1e-8, 1.1e-8)));
     [sine, cosine, arctangent, root].iter().fold(true, |good, tally| tally.done() & good)
 }
 #[cfg(not(linked))]

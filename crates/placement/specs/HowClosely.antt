@@ -35,7 +35,7 @@ pub record HowClosely (s : Scene) (a : Solution) : Type 0 where
   pub still : (i : ℕ) (d : Body) → i < length (s .bodies) → (getD (s .bodies) i d .fixed ≡ true) ⊎ (named (s .rels) i ≡ false)
       → (getD (a .poses) i ground ≡ getD (startingPoses s) i ground) × (getD (a .poses) i ground ≡ poseOfFrame (getD (s .bodies) i d .frame))
   -- The reported error of a mate, a flush, an insert, a symmetry or a tangent with a plane, whose bodies have small poses in P, differs by at most 0.0000001 from the
-  -- largest magnitude among its unrounded rows at P.
+  -- largest magnitude among its unrounded rows at P. Its bodies (document 01's term) are those that `names` tells, symmetry's plane's too; the ground's pose is small.
   pub closely : (j : ℕ) (d : Rel) → j < length (s .rels) → exactLaw (getD (s .rels) j d .law) (getD (s .rels) j d .a) (getD (s .rels) j d .b) ≡ true
       → ((i : ℕ) → names (getD (s .rels) j d) i ≡ true → smallPose (getD (a .poses) i ground) ≡ true)
       → Differs-by-at-most TEN-MILLION (getD (a .errors) j nan) (unroundedError (a .poses) (getD (s .rels) j d))
