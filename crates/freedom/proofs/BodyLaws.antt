@@ -554,9 +554,6 @@ struct-doubles f d e h k =
     ∙ ap (λ (l : List Float). n ∷ countDouble (length (d .turns)) ∷ (l ++ t)) (three-doubles (d .slides) h)
     ∙ ap (λ (l : List Float). n ∷ countDouble (length (d .turns)) ∷ (padded 9 (slidesDoubles (d .slides)) ++ l)) (turn-doubles (d .turns) k)
 
-pub length-freedom : (d : Freedom) → length (d .slides) ≤ 3 → length (d .turns) ≤ 3 → length (freedomDoubles d) ≡ 29
-length-freedom d h k = sym (ap length (struct-doubles (freedomStruct d) d refl h k))
-
 pub put-struct : (s t : List Float) (o : ℕ) (f : FreedomStruct) (d : Freedom) → f ≡ freedomStruct d → length (d .slides) ≤ 3 → length (d .turns) ≤ 3 → Put s t o 29 (structDoubles f)
     → Put s t o 29 (freedomDoubles d)
 put-struct s t o f d e h k p = subst (λ (l : List Float). Put s t o 29 l) (struct-doubles f d e h k) p

@@ -12,7 +12,7 @@ use Rattle.vectors.specs.Flat.{flat}
 use Rattle.solver.specs.Model.{Body, Rel}
 use Rattle.solver.specs.Lm.{jacobian}
 use Rattle.solver.specs.Record.{bodyAt}
-use Rattle.solver.specs.Scene.{Put, Laid, sceneOf, posesIn, posesDoubles}
+use Rattle.solver.specs.Scene.{Put, sceneOf, posesIn, posesDoubles}
 use Rattle.solver.specs.Solve.{Scene, moves, unknowns, halfSize}
 use Rattle.solver.specs.Dof.{Freedom, bodyDof, bodyRows, zeros, freedomOf, freedomsFrom, unnamedFrom, totalFreedom, dof}
 use Rattle.solver.specs.declared.scene.Scene.{Scene as SceneStruct}
@@ -146,10 +146,3 @@ unnamed-few rels i (b ∷ bodies) = six-or-none (not (b .fixed) && not (moves re
 pub total-few : (sc : Scene) → totalFreedom sc ≤ unknowns sc + 6 * length (sc .bodies)
 unfolding totalFreedom
 total-few sc = omega (arith, unnamed-few (sc .rels) 0 (sc .bodies))
-
--- at most six for each of 64 bodies twice over
-pub freed-few : (sheet : List ℕ) (c : SceneStruct) (s t d e : List Float) (total : ℕ) → Laid sheet c → c .n ≤ 384 → Freed (sceneOf sheet c) (c .m) s t d e total → total ≤ 768
-unfolding dof
-freed-few sheet c s t d e total laid h y =
-    let k : total ≡ totalFreedom (sceneOf sheet c) = y .total-is in
-    omega (arith, total-few (sceneOf sheet c), length-bodies sheet c, laid .unknown-count, laid .body-count)
