@@ -3,9 +3,9 @@ ghost use Prim.Native.Nat.{_≤_, _<_};
 use crate::list::double;
 use crate::list::same;
 use crate::next;
-use vectors::eigen6::Eigen6;
-use vectors::eigen6::sym_eigen;
-use vectors::span::span_basis;
+use spans::eigen6::Eigen6;
+use spans::eigen6::sym_eigen;
+use spans::span::span_basis;
 use vectors::vec::Vec3;
 
 fn read_row(fd: i32, n: usize) -> [f64; 6]

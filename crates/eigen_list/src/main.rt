@@ -5,11 +5,11 @@ mod list;
 
 ghost use Prim.Native.Nat.{_*_, _≤_, _<_};
 ghost use lib.ListN.{length};
+use eigen::eigen::sym_eigen;
 use list::double;
 use list::same;
 use list::word;
 use std::num::wrapping_add_u64;
-use vectors::eigen::sym_eigen;
 
 struct Tally {
     answers: u64,

@@ -8,22 +8,22 @@ use native.Mathlib.Numerals.{add-one}
 use lib.ListN.{length, take, drop, length-drop}
 use lib.Seq.{take-add, take-all}
 use lib.Ieee.{Float}
-use Rattle.vectors.specs.Flat.{flat}
-use Rattle.solver.specs.Model.{Body, Rel}
-use Rattle.solver.specs.Lm.{jacobian}
-use Rattle.solver.specs.Record.{bodyAt}
-use Rattle.solver.specs.Scene.{Put, sceneOf, posesIn, posesDoubles}
-use Rattle.solver.specs.Solve.{Scene, moves, unknowns, halfSize}
-use Rattle.solver.specs.Dof.{Freedom, bodyDof, bodyRows, zeros, freedomOf, freedomsFrom, unnamedFrom, totalFreedom, dof}
-use Rattle.solver.specs.declared.scene.Scene.{Scene as SceneStruct}
-use Rattle.solver.proofs.SceneLaws.{Growing, growing-start, growing-step, growing-end, bodies-next, length-bodies, drop-whole}
-use Rattle.freedom.specs.Layout.{freedomDoubles, freedomsDoubles}
-use Rattle.freedom.specs.BodyFreedom.{fromSquare, freedomStruct}
-use Rattle.freedom.specs.BodySlopes.{starts, BodySquare}
+use Rattle.spans.specs.Flat.{flat}
+use Rattle.relations.specs.Model.{Body, Rel}
+use Rattle.least_squares.specs.Lm.{jacobian}
+use Rattle.records.specs.Record.{bodyAt}
+use Rattle.scene.specs.Scene.{Put, sceneOf, posesIn, posesDoubles}
+use Rattle.scene.specs.Solve.{Scene, moves, unknowns, halfSize}
+use Rattle.body_freedom.specs.Dof.{Freedom, bodyDof, bodyRows, zeros, freedomOf, freedomsFrom, unnamedFrom, totalFreedom, dof}
+use Rattle.scene.specs.declared.scene.Scene.{Scene as SceneStruct}
+use Rattle.scene.proofs.SceneLaws.{Growing, growing-start, growing-step, growing-end, bodies-next, length-bodies, drop-whole}
+use Rattle.body_freedom.specs.Layout.{freedomDoubles, freedomsDoubles}
+use Rattle.body_freedom.specs.BodyFreedom.{fromSquare, freedomStruct}
+use Rattle.body_freedom.specs.BodySlopes.{starts, BodySquare}
 use Rattle.freedom.specs.Freed.{BodyFreed, Freed}
-use Rattle.freedom.specs.declared.body.Freedom.{Freedom as FreedomStruct}
-use Rattle.freedom.proofs.BodyLaws.{body-dof-is, few-slides, few-turns}
-use Rattle.freedom.proofs.BodySlopeLaws.{starts-there}
+use Rattle.body_freedom.specs.declared.body.Freedom.{Freedom as FreedomStruct}
+use Rattle.body_freedom.proofs.BodyLaws.{body-dof-is, few-slides, few-turns}
+use Rattle.body_freedom.proofs.BodySlopeLaws.{starts-there}
 
 -- ---- one body
 

@@ -16,20 +16,21 @@ use lib.Seq.{getD-set-same, getD-set-other, ext-getD, set-set, take-suc-set, dro
 use lib.Ieee.{Float, nan, binary64, add, sub, mul, div, neg, lt, le}
 use Rattle.numbers.specs.Double.{zero64, fmax}
 use Rattle.arcs.specs.Root.{root}
-use Rattle.vectors.specs.Eigen.{Eigen, symEigen}
-use Rattle.solver.specs.Lm.{listOf, tableOf, sumFrom, stepOf, slopeOf, ahead, behind, slope, jacobian}
-use Rattle.solver.specs.LmPosts.{Copied}
-use Rattle.solver.specs.Memory.{part, Kept}
-use Rattle.solver.specs.Model.{Body, Rel}
-use Rattle.solver.specs.Record.{bodyAt, sceneIn}
-use Rattle.solver.specs.Scene.{firstUnknown, sceneOf, Laid, Put, RowsAt, Column}
-use Rattle.solver.specs.Solve.{Scene, moves, layoutFrom, layout, unknowns, rowsOf, halfSize}
-use Rattle.solver.specs.Dof.{columnsTimes, squareOf, largestValue, scaleThree, scaledFrom, scaledRows, stiffCount, rankRel, unnamedFrom, totalFreedom, zeros, top}
-use Rattle.solver.specs.declared.scene.Scene.{Scene as SceneStruct}
-use Rattle.solver.proofs.MemoryLaws.{part-length, part-at, part-set, kept-refl, kept-set, kept-trans, kept-wider, kept-at-below, kept-at-above, kept-part-below, part-part}
-use Rattle.solver.proofs.TableLaws.{in-rows, table-ext, sum-same, getD-listOf}
-use Rattle.solver.proofs.SceneLaws.{next-layout, length-bodies, bodies-next, layout-next, drop-whole}
-use Rattle.solver.proofs.LmLaws.{row-step, row-fits, entry-at}
+use Rattle.eigen.specs.Eigen.{Eigen, symEigen}
+use Rattle.least_squares.specs.Lm.{listOf, tableOf, sumFrom, stepOf, slopeOf, ahead, behind, slope, jacobian}
+use Rattle.least_squares.specs.LmPosts.{Copied}
+use Rattle.least_squares.specs.Memory.{part, Kept}
+use Rattle.relations.specs.Model.{Body, Rel}
+use Rattle.records.specs.Record.{bodyAt}
+use Rattle.scene.specs.Scene.{sceneIn}
+use Rattle.scene.specs.Scene.{firstUnknown, sceneOf, Laid, Put, RowsAt, Column}
+use Rattle.scene.specs.Solve.{Scene, moves, layoutFrom, layout, unknowns, rowsOf, halfSize}
+use Rattle.body_freedom.specs.Dof.{columnsTimes, squareOf, largestValue, scaleThree, scaledFrom, scaledRows, stiffCount, rankRel, unnamedFrom, totalFreedom, zeros, top}
+use Rattle.scene.specs.declared.scene.Scene.{Scene as SceneStruct}
+use Rattle.least_squares.proofs.MemoryLaws.{part-length, part-at, part-set, kept-refl, kept-set, kept-trans, kept-wider, kept-at-below, kept-at-above, kept-part-below, part-part}
+use Rattle.least_squares.proofs.TableLaws.{in-rows, table-ext, sum-same, getD-listOf}
+use Rattle.scene.proofs.SceneLaws.{next-layout, length-bodies, bodies-next, layout-next, drop-whole}
+use Rattle.least_squares.proofs.LmLaws.{row-step, row-fits, entry-at}
 use borrow.Rule.Slice.PartMut.{putMid, mid-len}
 use Rattle.freedom.specs.Values.{Values}
 use Rattle.freedom.proofs.ValueLaws.{lent-part}

@@ -12,14 +12,14 @@ use lib.Seq.{take-at, drop-at, take-all, take-suc-set, drop-set-add, length-take
 use lib.Ieee.{Float, nan, binary64, mul, lt, ofBits}
 use borrow.Rule.Slice.PartMut.{putMid, same-len-mid, mid-len, take-put, drop-put}
 use Rattle.numbers.specs.Double.{abs, before}
-use Rattle.vectors.specs.Sort.{sort}
-use Rattle.vectors.specs.Eigen.{Turned, turned, tangentOf, cosineOf, turnedBy, rotate, sweepRow, sweepTo, sweeps, settled, unitTo, Eigen, column, pairs, lower, symEigen}
-use Rattle.vectors.specs.EigenMemory.{diagonal}
-use Rattle.vectors.proofs.Sorting.{sort-map, sortedTo, sorted-end}
-use Rattle.solver.specs.Memory.{part, Kept}
-use Rattle.solver.specs.Scene.{Put}
-use Rattle.solver.proofs.MemoryLaws.{part-at, kept-trans, kept-wider, kept-at-below}
-use Rattle.solver.proofs.TableLaws.{in-rows}
+use Rattle.eigen.specs.Sort.{sort}
+use Rattle.eigen.specs.Eigen.{Turned, turned, tangentOf, cosineOf, turnedBy, rotate, sweepRow, sweepTo, sweeps, settled, unitTo, Eigen, column, pairs, lower, symEigen}
+use Rattle.eigen.specs.EigenMemory.{diagonal}
+use Rattle.eigen.proofs.Sorting.{sort-map, sortedTo, sorted-end}
+use Rattle.least_squares.specs.Memory.{part, Kept}
+use Rattle.scene.specs.Scene.{Put}
+use Rattle.least_squares.proofs.MemoryLaws.{part-at, kept-trans, kept-wider, kept-at-below}
+use Rattle.least_squares.proofs.TableLaws.{in-rows}
 use Rattle.freedom.specs.Values.{rotated, rowSwept, sweptTo, swept, Values}
 
 -- ---- the sweeps

@@ -4,12 +4,12 @@ use mathlib.Core.Path.{_≡_}
 use mathlib.Core.List.{List, _++_}
 use lib.ListN.{length, drop}
 use lib.Ieee.{Float}
-use Rattle.solver.specs.Scene.{Put, posesIn}
-use Rattle.solver.specs.Solve.{Scene}
-use Rattle.solver.specs.Dof.{Freedom, dof}
-use Rattle.solver.specs.declared.scene.Scene.{Scene as SceneStruct}
-use Rattle.freedom.specs.Layout.{freedomDoubles, freedomsDoubles}
-use Rattle.freedom.specs.BodySlopes.{starts}
+use Rattle.scene.specs.Scene.{Put, posesIn}
+use Rattle.scene.specs.Solve.{Scene}
+use Rattle.body_freedom.specs.Dof.{Freedom, dof}
+use Rattle.scene.specs.declared.scene.Scene.{Scene as SceneStruct}
+use Rattle.body_freedom.specs.Layout.{freedomDoubles, freedomsDoubles}
+use Rattle.body_freedom.specs.BodySlopes.{starts}
 
 -- the doubles of scratch that document 01 counts: R·n+2n²+8R+8n+32m
 abbrev pub need : SceneStruct → ℕ

@@ -10,9 +10,9 @@ use lib.Ieee.{Float, nan, binary64, mul, lt, le}
 use Rattle.numbers.specs.Double.{zero64, fmax}
 use Rattle.arcs.specs.Root.{root}
 use Rattle.vectors.specs.Tol.{DOF-REL}
-use Rattle.solver.specs.Lm.{slope, jacobian}
-use Rattle.solver.specs.Memory.{part, Kept}
-use Rattle.solver.specs.Dof.{columnsTimes, scaleThree}
+use Rattle.least_squares.specs.Lm.{slope, jacobian}
+use Rattle.least_squares.specs.Memory.{part, Kept}
+use Rattle.body_freedom.specs.Dof.{columnsTimes, scaleThree}
 
 -- ---- rows and slopes
 

@@ -6,8 +6,8 @@ use mathlib.Core.List.{List, map}
 use lib.ListN.{getD}
 use lib.Ieee.{Float, nan, binary64, mul, lt, ofBits}
 use Rattle.numbers.specs.Double.{abs}
-use Rattle.vectors.specs.Eigen.{tangentOf, cosineOf, turnColumns, turnRows, settled, Eigen, symEigen}
-use Rattle.solver.specs.Memory.{part, Kept}
+use Rattle.eigen.specs.Eigen.{tangentOf, cosineOf, turnColumns, turnRows, settled, Eigen, symEigen}
+use Rattle.least_squares.specs.Memory.{part, Kept}
 
 abbrev pub rotatedBy : ℕ → ℕ → ℕ → List Float → Float → Float → List Float
 rotatedBy n p q m c s = turnRows n c s p q (turnColumns n c s p q m n) n

@@ -3,20 +3,20 @@
 ghost use mathlib.Core.Path.{_≡_};
 ghost use Prim.Native.Nat.{_+_, _*_, _≤_, _<_};
 ghost use lib.ListN.{length};
-ghost use Rattle.solver.specs.Dof as definitions;
-ghost use Rattle.solver.specs.Record as format;
-ghost use Rattle.solver.specs.Scene.{Laid, sceneOf, posesIn};
-ghost use Rattle.freedom.specs.BodySlopes.{starts};
+ghost use Rattle.body_freedom.specs.Dof as definitions;
+ghost use Rattle.records.specs.Record as format;
+ghost use Rattle.scene.specs.Scene.{Laid, sceneOf, posesIn};
+ghost use Rattle.body_freedom.specs.BodySlopes.{starts};
 ghost use Rattle.freedom.specs.Freed as spec;
-use crate::body::body_dof;
-use crate::body::put_freedom;
-use crate::body::put_none;
-use crate::body_slopes::body_square;
-use crate::body_slopes::put_starts;
 use crate::total::total;
-use solver::record::body_at;
-use solver::scene::Scene;
-use solver::scene::half_size;
+use body_freedom::body::body_dof;
+use body_freedom::body::put_freedom;
+use body_freedom::body::put_none;
+use body_freedom::body_slopes::body_square;
+use body_freedom::body_slopes::put_starts;
+use records::record::body_at;
+use scene::scene::Scene;
+use scene::scene::half_size;
 
 // Body i's freedom with the others held still, in 29 doubles; a fixed body has none. Rows ahead stand at a, rows behind at b, poses at p.
 fn put_body(

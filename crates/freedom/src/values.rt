@@ -5,17 +5,17 @@ ghost use Prim.Native.Nat.{_+_, _*_, _-_, _≤_, _<_};
 ghost use lib.ListN.{length};
 ghost use lib.Ieee.{nan};
 ghost use Rattle.numbers.specs.Double.{before};
-ghost use Rattle.vectors.specs.Sort as order;
-ghost use Rattle.vectors.specs.Insertion as order_step;
-ghost use Rattle.vectors.specs.EigenMemory as memory;
-ghost use Rattle.solver.specs.Memory.{part};
-ghost use Rattle.solver.specs.Scene.{Put};
+ghost use Rattle.eigen.specs.Sort as order;
+ghost use Rattle.eigen.specs.Insertion as order_step;
+ghost use Rattle.eigen.specs.EigenMemory as memory;
+ghost use Rattle.least_squares.specs.Memory.{part};
+ghost use Rattle.scene.specs.Scene.{Put};
 ghost use Rattle.freedom.specs.Values as spec;
-use vectors::eigen::cosine;
-use vectors::eigen::settled;
-use vectors::eigen::tangent;
-use vectors::eigen::turn_columns;
-use vectors::eigen::turn_rows;
+use eigen::eigen::cosine;
+use eigen::eigen::settled;
+use eigen::eigen::tangent;
+use eigen::eigen::turn_columns;
+use eigen::eigen::turn_rows;
 
 // Turns m so that the entry pq vanishes, unless it is next to nothing already.
 fn rotate(m: &mut [f64], n: usize, p: usize, q: usize)

@@ -1,4 +1,1 @@
-pub mod TrialLaws
-pub mod RoundLaws
-pub mod NearLaws
 pub mod SolveLaws

@@ -16,25 +16,26 @@ use Rattle.vectors.specs.Tol.{ASSEMBLY}
 use Rattle.vectors.specs.Vec.{Vec}
 use Rattle.vectors.specs.Space.{Frame}
 use Rattle.vectors.specs.Math.{frameOf}
-use Rattle.solver.specs.Geometry.{Pose, frameOr}
-use Rattle.solver.specs.Model.{Body, Rel}
-use Rattle.solver.specs.Lm.{listOf, inverseWeight, Outcome, run}
-use Rattle.solver.specs.LmPosts.{Copied}
-use Rattle.solver.specs.Memory.{part}
-use Rattle.solver.specs.Record.{bodyAt, relAt, sceneIn}
-use Rattle.solver.specs.Rows as Rows
-use Rattle.solver.specs.Scene.{Put, RowsAt, sceneOf, vecDoubles, poseIn, posesIn, posesDoubles, relRows}
-use Rattle.solver.specs.Solve.{Scene, layout, unknowns, posesAt, rowsAt, rowsOf, weights, startAt, slightTurn, MAX-ITER, runFrom, better, solved, solve, frameAt, framesFrom}
-use Rattle.solver.specs.CountLaws.{rows-packed}
-use Rattle.solver.specs.declared.rows.Rows.{Rows as RowsStruct}
-use Rattle.solver.specs.declared.scene.Scene.{Scene as SceneStruct}
-use Rattle.solver.proofs.MemoryLaws.{kept-refl, kept-part-below, kept-part-above}
-use Rattle.solver.proofs.TableLaws.{length-listOf}
-use Rattle.solver.proofs.SceneLaws.{put-one, put-then, rel-small, poses-there, length-poses, length-layout, length-bodies, drop-whole}
+use Rattle.relations.specs.Geometry.{Pose, frameOr}
+use Rattle.relations.specs.Model.{Body, Rel}
+use Rattle.least_squares.specs.Lm.{listOf, inverseWeight, Outcome, run}
+use Rattle.least_squares.specs.LmPosts.{Copied}
+use Rattle.least_squares.specs.Memory.{part}
+use Rattle.records.specs.Record.{bodyAt, relAt}
+use Rattle.scene.specs.Scene.{sceneIn}
+use Rattle.relations.specs.Rows as Rows
+use Rattle.scene.specs.Scene.{Put, RowsAt, sceneOf, vecDoubles, poseIn, posesIn, posesDoubles, relRows}
+use Rattle.scene.specs.Solve.{Scene, layout, unknowns, posesAt, rowsAt, rowsOf, weights, startAt, slightTurn, MAX-ITER, runFrom, better, solved, solve, frameAt, framesFrom}
+use Rattle.judging.specs.CountLaws.{rows-packed}
+use Rattle.relations.specs.declared.rows.Rows.{Rows as RowsStruct}
+use Rattle.scene.specs.declared.scene.Scene.{Scene as SceneStruct}
+use Rattle.least_squares.proofs.MemoryLaws.{kept-refl, kept-part-below, kept-part-above}
+use Rattle.least_squares.proofs.TableLaws.{length-listOf}
+use Rattle.scene.proofs.SceneLaws.{put-one, put-then, rel-small, poses-there, length-poses, length-layout, length-bodies, drop-whole}
 use Rattle.placement.specs.Answer.{frameDoubles, framesDoubles, Worst, Ended, Filled}
-use Rattle.placement.specs.Places.{Arranged}
-use Rattle.placement.specs.Rounds.{weightsIn, unknownsIn, firstIn, Ran}
-use Rattle.placement.specs.declared.places.Places.{Places as PlacesStruct}
+use Rattle.rounds.specs.Places.{Arranged}
+use Rattle.rounds.specs.Rounds.{weightsIn, unknownsIn, firstIn, Ran}
+use Rattle.rounds.specs.declared.places.Places.{Places as PlacesStruct}
 
 -- ---- lists written double by double
 

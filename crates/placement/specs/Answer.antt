@@ -9,12 +9,12 @@ use lib.ListN.{length, drop, take}
 use lib.Ieee.{Float}
 use Rattle.numbers.specs.MaxAbs.{maxAbs}
 use Rattle.vectors.specs.Space.{Frame}
-use Rattle.solver.specs.Lm.{Outcome}
-use Rattle.solver.specs.Memory.{part}
-use Rattle.solver.specs.Scene.{vecDoubles, posesDoubles}
-use Rattle.solver.specs.Solve.{Scene, rowsOf, solved, solve}
-use Rattle.solver.specs.declared.scene.Scene.{Scene as SceneStruct}
-use Rattle.placement.specs.declared.places.Places.{Places as PlacesStruct}
+use Rattle.least_squares.specs.Lm.{Outcome}
+use Rattle.least_squares.specs.Memory.{part}
+use Rattle.scene.specs.Scene.{vecDoubles, posesDoubles}
+use Rattle.scene.specs.Solve.{Scene, rowsOf, solved, solve}
+use Rattle.scene.specs.declared.scene.Scene.{Scene as SceneStruct}
+use Rattle.rounds.specs.declared.places.Places.{Places as PlacesStruct}
 
 -- a frame: origin, x, y, z
 abbrev pub frameDoubles : Frame → List Float

@@ -9,9 +9,10 @@ use lib.ListN.{length, getD, drop, length-append, length-drop, List·getD-append
 use lib.Dec.{eqb}
 use lib.Ieee.{Float, nan}
 use borrow.Author.Tests.{eq-eqb, ne-eqb}
-use Rattle.freedom.specs.Layout.{freedomsDoubles}
-use Rattle.sheet.specs.Format.{bodiesOf, relationsOf}
-use Rattle.sheet.specs.Refusals.{sheetFault, solveFault, dofFault}
+use Rattle.body_freedom.specs.Layout.{freedomsDoubles}
+use Rattle.format.specs.Format.{bodiesOf, relationsOf}
+use Rattle.format.specs.Faults.{sheetFault}
+use Rattle.sheet.specs.Refusals.{solveFault, dofFault}
 use Rattle.sheet.specs.Solving.{flagOf, solutionOf, SolveAnswer}
 use Rattle.sheet.specs.Freedoms.{freedomsOf, DofAnswer}
 use Rattle.sheet.proofs.CallLaws.{first, later}

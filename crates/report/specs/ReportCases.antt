@@ -6,7 +6,8 @@ use mathlib.Core.List.{[], _∷_, _++_}
 use lib.ListN.{replicate}
 use lib.Ieee.{nan, inf, binary64, ofBits, toBits, eq, size}
 use Rattle.numbers.specs.Double.{zero64}
-use Rattle.sheet.specs.Refusals.{headerFault, sheetFault, solveFault}
+use Rattle.format.specs.Faults.{headerFault, sheetFault}
+use Rattle.sheet.specs.Refusals.{solveFault}
 use Rattle.report.specs.Report.{answerText, refusedText, relationLine, bodyLine, decimal, bitsText, digits, placesIn, countDigit, lines}
 use Rattle.report.specs.ReportOf.{numberOf, reportOf}
 

@@ -4,9 +4,10 @@ use Prim.Native.Nat.{ℕ}
 use mathlib.Core.Bool.{cond}
 use mathlib.Core.List.{List}
 use lib.Dec.{eqb}
-use Rattle.freedom.specs.Layout.{freedomsDoubles}
-use Rattle.sheet.specs.Format.{bodiesOf, relationsOf}
-use Rattle.sheet.specs.Refusals.{orElse, solveFault, dofFault}
+use Rattle.body_freedom.specs.Layout.{freedomsDoubles}
+use Rattle.format.specs.Format.{bodiesOf, relationsOf}
+use Rattle.format.specs.Faults.{orElse}
+use Rattle.sheet.specs.Refusals.{solveFault, dofFault}
 use Rattle.sheet.specs.Solving.{solutionOf}
 use Rattle.sheet.specs.Freedoms.{freedomsOf}
 use Rattle.report.specs.Report.{answerText, refusedText}

@@ -2,15 +2,15 @@
 
 use crate::text::answer_text;
 use crate::text::refused_text;
+use records::record::u16_at;
 use sheet::freedoms::sheet_dof;
 use sheet::solving::sheet_solve;
-use solver::record::u16_at;
 ghost use mathlib.Core.Path.{_≡_};
 ghost use Prim.Native.Nat.{_≤_};
 ghost use lib.Dec.{eqb};
 ghost use lib.ListN.{length};
-ghost use Rattle.sheet.specs.Format.{bodiesOf, relationsOf};
-ghost use Rattle.sheet.specs.Refusals.{sheetFault};
+ghost use Rattle.format.specs.Format.{bodiesOf, relationsOf};
+ghost use Rattle.format.specs.Faults.{sheetFault};
 ghost use Rattle.report.specs.Report.{Put, answerText};
 ghost use Rattle.report.specs.ReportOf.{reportOf};
 

@@ -1,11 +1,11 @@
 // Replays the Rust's rows: each relation's count, seven rows and largest magnitude, at poses squared and not; and prints how many answers the list holds and how many of
 // them differ here. All bits are compared; all NaNs are the same. data/ has a copy of a list of oracle/lists, whose format oracle/FORMATS.md gives.
 
-use solver::record::double_at;
-use solver::record::rel_at;
-use solver::record::u64_at;
-use solver::rows::Rows;
-use solver::scene::rel_rows;
+use records::record::double_at;
+use records::record::rel_at;
+use records::record::u64_at;
+use relations::rows::Rows;
+use scene::scene::rel_rows;
 
 // The next word; 0 where the list ends.
 fn word(fd: i32) -> u64 {

@@ -10,16 +10,17 @@ use lib.Dec.{eqb, leb, ltb}
 use lib.Ieee.{Float}
 use borrow.Author.Tests.{ltb-true, lt-ltb, le-ltb, le-leb, lt-leb, ne-eqb}
 use Rattle.vectors.specs.Vec.{Vec, zeroV}
-use Rattle.solver.specs.Geometry.{Pose}
-use Rattle.solver.specs.Model.{Body, Rel, poseOfFrame}
-use Rattle.solver.specs.Rows.{ground}
-use Rattle.solver.specs.Judge.{Reading, judge, jointReading}
-use Rattle.solver.specs.Snap.{Motion, snap}
-use Rattle.solver.specs.Record.{bodyAt}
-use Rattle.sheet.specs.Format.{bodiesOf, relationsOf, bodyStart, relStart}
-use Rattle.sheet.specs.Refusals.{orElse, unless, relationFault, headerFault, bodiesFault, relsFault, sheetFault, judgeFault, readingFault, snapFault}
+use Rattle.relations.specs.Geometry.{Pose}
+use Rattle.relations.specs.Model.{Body, Rel, poseOfFrame}
+use Rattle.relations.specs.Rows.{ground}
+use Rattle.judging.specs.Judge.{Reading, judge, jointReading}
+use Rattle.snapping.specs.Snap.{Motion, snap}
+use Rattle.records.specs.Record.{bodyAt}
+use Rattle.format.specs.Format.{bodiesOf, relationsOf, bodyStart, relStart}
+use Rattle.format.specs.Faults.{orElse, unless, headerFault, bodiesFault, relsFault, sheetFault}
+use Rattle.sheet.specs.Refusals.{relationFault, judgeFault, readingFault, snapFault}
 use Rattle.sheet.specs.Calls.{relationOf, poseIn, centerIn, readingOf, motionOf, poseDoubles, readingAfter, motionAfter}
-use Rattle.sheet.proofs.RefusalLaws.{Sized, header-passes, or-else-first, none-of}
+use Rattle.format.proofs.RefusalLaws.{Sized, header-passes, or-else-first, none-of}
 
 -- ---- one test after another
 

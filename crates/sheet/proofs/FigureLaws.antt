@@ -11,18 +11,21 @@ use borrow.Author.Tests.{leb-true}
 use native.Mathlib.Omega.{arith}
 use lib.ListN.{length, length-append}
 use lib.Ieee.{Float}
-use Rattle.solver.specs.Geometry.{Pose}
-use Rattle.solver.specs.Model.{Body, Rel}
-use Rattle.solver.specs.CountLaws.{residual-length, row-count-le}
-use Rattle.solver.specs.Record.{bodyAt, relAt, sceneIn}
-use Rattle.solver.proofs.TableLaws.{length-listOf}
-use Rattle.solver.specs.Scene.{sceneOf, SceneMade}
-use Rattle.solver.specs.Solve.{Scene, moves, layoutFrom, unknownsIn, unknowns, posesAt, endPose, planeBody, rowsAt, allRows}
-use Rattle.solver.specs.Dof.{zeros}
-use Rattle.solver.specs.declared.scene.Scene.{Scene as SceneStruct}
-use Rattle.sheet.specs.Format.{bodiesOf, relationsOf, sceneAt}
-use Rattle.sheet.specs.Refusals.{orElse, headerZeros, headerCounts, headerOffsets, headerFault, bodiesFault, relsFault, sheetFault, rowsIn}
-use Rattle.sheet.proofs.RefusalLaws.{none-of}
+use Rattle.relations.specs.Geometry.{Pose}
+use Rattle.relations.specs.Model.{Body, Rel}
+use Rattle.judging.specs.CountLaws.{residual-length, row-count-le}
+use Rattle.records.specs.Record.{bodyAt, relAt}
+use Rattle.scene.specs.Scene.{sceneIn}
+use Rattle.least_squares.proofs.TableLaws.{length-listOf}
+use Rattle.scene.specs.Scene.{sceneOf, SceneMade}
+use Rattle.scene.specs.Solve.{Scene, moves, layoutFrom, unknownsIn, unknowns, posesAt, endPose, planeBody, rowsAt, allRows}
+use Rattle.body_freedom.specs.Dof.{zeros}
+use Rattle.scene.specs.declared.scene.Scene.{Scene as SceneStruct}
+use Rattle.format.specs.Format.{bodiesOf, relationsOf}
+use Rattle.sheet.specs.SceneAt.{sceneAt}
+use Rattle.format.specs.Faults.{orElse, headerZeros, headerCounts, headerOffsets, headerFault, bodiesFault, relsFault, sheetFault}
+use Rattle.sheet.specs.Refusals.{rowsIn}
+use Rattle.format.proofs.RefusalLaws.{none-of}
 
 -- six unknowns to a body at the most
 layout-more : (t : Bool) (next k : ℕ) (a b : List (Option ℕ)) → unknownsIn a ≤ 6 * k → unknownsIn b ≤ 6 * k → unknownsIn (elim t [ true ↦ some next ∷ a | false ↦ none ∷ b ]) ≤ 6 * suc k

@@ -8,18 +8,21 @@ use lib.ListN.{length}
 use lib.Dec.{leb}
 use lib.Ieee.{Float}
 use borrow.Author.Tests.{leb-true, ne-eqb}
-use Rattle.solver.specs.Record.{bodyAt, sceneIn}
-use Rattle.solver.specs.Scene.{Laid, SceneMade, sceneOf}
-use Rattle.solver.specs.Solve.{Scene}
-use Rattle.solver.specs.Dof.{dof}
-use Rattle.solver.proofs.TableLaws.{length-listOf}
-use Rattle.solver.specs.declared.scene.Scene.{Scene as SceneStruct}
+use Rattle.records.specs.Record.{bodyAt}
+use Rattle.scene.specs.Scene.{sceneIn}
+use Rattle.scene.specs.Scene.{Laid, SceneMade, sceneOf}
+use Rattle.scene.specs.Solve.{Scene}
+use Rattle.body_freedom.specs.Dof.{dof}
+use Rattle.least_squares.proofs.TableLaws.{length-listOf}
+use Rattle.scene.specs.declared.scene.Scene.{Scene as SceneStruct}
 use Rattle.freedom.specs.Freed.{need, Freed}
 use Rattle.freedom.proofs.DofLaws.{total-few}
-use Rattle.sheet.specs.Format.{bodiesOf, relationsOf, sceneAt}
-use Rattle.sheet.specs.Refusals.{unless, sheetFault, dofScratch, dofFault}
+use Rattle.format.specs.Format.{bodiesOf, relationsOf}
+use Rattle.sheet.specs.SceneAt.{sceneAt}
+use Rattle.format.specs.Faults.{unless, sheetFault}
+use Rattle.sheet.specs.Refusals.{dofScratch, dofFault}
 use Rattle.sheet.specs.Freedoms.{freedomsOf, DofAnswer}
-use Rattle.sheet.proofs.RefusalLaws.{none-of}
+use Rattle.format.proofs.RefusalLaws.{none-of}
 use Rattle.sheet.proofs.FigureLaws.{counted, few, row-count, scene-is, unknown-count, unknowns-le}
 use Rattle.sheet.proofs.SolvingLaws.{passes}
 

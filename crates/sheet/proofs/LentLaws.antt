@@ -5,9 +5,10 @@ use mathlib.Core.List.{List}
 use Prim.Native.Nat.{ℕ, _*_, _<_, _≤_}
 use lib.Dec.{leb}
 use borrow.Author.Tests.{lt-ltb, le-ltb, le-leb, lt-leb, eq-eqb, ne-eqb}
-use Rattle.solver.specs.Record.{GROUND}
-use Rattle.sheet.specs.Format.{bodiesOf, relationsOf}
-use Rattle.sheet.specs.Refusals.{orElse, unless, sheetFault, dragFault, solveScratch, solveFault, dofScratch, dofFault}
+use Rattle.records.specs.Record.{GROUND}
+use Rattle.format.specs.Format.{bodiesOf, relationsOf}
+use Rattle.format.specs.Faults.{orElse, unless, sheetFault}
+use Rattle.sheet.specs.Refusals.{dragFault, solveScratch, solveFault, dofScratch, dofFault}
 use Rattle.sheet.proofs.CallLaws.{first, later}
 
 -- ---- the drag

@@ -1,5 +1,3 @@
-pub mod RefusalLaws
-pub mod FieldLaws
 pub mod CallLaws
 pub mod FigureLaws
 pub mod LimitLaws

@@ -12,13 +12,15 @@ use lib.Ieee.{Float}
 use lib.Ieee.Bits.{is-true}
 use lib.Ieee.Fits.{and-l, and-r}
 use Rattle.vectors.specs.Vec.{Vec}
-use Rattle.solver.specs.Model.{Rel}
-use Rattle.solver.specs.Record.{byteAt, doubleAt, vecAt, primAt, endAt, lawBy, relAt, sceneIn}
-use Rattle.solver.specs.RowBound.{SHEET-LIMIT, UNIT-LIMIT, upTo, upToV, smallGeo, smallEnd, smallLaw, smallRel}
-use Rattle.solver.proofs.TableLaws.{length-listOf, getD-listOf}
-use Rattle.sheet.specs.Format.{bodiesOf, relationsOf, relStart, sceneAt}
-use Rattle.sheet.specs.Refusals.{NEAR-ONE, THOUSAND, orElse, within, withinV, endLimits, relShape, relNames, relLimits, headerFault, bodiesFault, relFault, relsFault, sheetFault}
-use Rattle.sheet.proofs.RefusalLaws.{none-of}
+use Rattle.relations.specs.Model.{Rel}
+use Rattle.records.specs.Record.{byteAt, doubleAt, vecAt, primAt, endAt, lawBy, relAt}
+use Rattle.scene.specs.Scene.{sceneIn}
+use Rattle.closeness.specs.RowBound.{SHEET-LIMIT, UNIT-LIMIT, upTo, upToV, smallGeo, smallEnd, smallLaw, smallRel}
+use Rattle.least_squares.proofs.TableLaws.{length-listOf, getD-listOf}
+use Rattle.format.specs.Format.{bodiesOf, relationsOf, relStart}
+use Rattle.sheet.specs.SceneAt.{sceneAt}
+use Rattle.format.specs.Faults.{NEAR-ONE, THOUSAND, orElse, within, withinV, endLimits, relShape, relNames, relLimits, headerFault, bodiesFault, relFault, relsFault, sheetFault}
+use Rattle.format.proofs.RefusalLaws.{none-of}
 
 -- ---- from the tests to the limits of the row bound
 

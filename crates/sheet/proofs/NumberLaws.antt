@@ -5,9 +5,10 @@ use Prim.Native.Nat.{ℕ, zero, suc, _*_, _≤_}
 use native.Mathlib.Omega.{arith}
 use lib.ListN.{length}
 use lib.Dec.{eqb, leb, ltb}
-use Rattle.solver.specs.Record.{GROUND}
-use Rattle.sheet.specs.Format.{bodiesOf, relationsOf, bodyStart, relStart}
-use Rattle.sheet.specs.Refusals.{orElse, unless, headerZeros, headerCounts, headerOffsets, headerFault, bodyShape, bodyLimits, bodyFault, relShape, relNames, relLimits, relFault, bodiesFault, relsFault, sheetFault, dragFault, solveScratch, solveFault, dofScratch, dofFault}
+use Rattle.records.specs.Record.{GROUND}
+use Rattle.format.specs.Format.{bodiesOf, relationsOf, bodyStart, relStart}
+use Rattle.format.specs.Faults.{orElse, unless, headerZeros, headerCounts, headerOffsets, headerFault, bodyShape, bodyLimits, bodyFault, relShape, relNames, relLimits, relFault, bodiesFault, relsFault, sheetFault}
+use Rattle.sheet.specs.Refusals.{dragFault, solveScratch, solveFault, dofScratch, dofFault}
 
 or-else-le : (a b n : ℕ) → a ≤ n → b ≤ n → orElse a b ≤ n
 or-else-le zero b n h k = k

@@ -10,16 +10,18 @@ use lib.ListN.{length}
 use lib.Dec.{leb}
 use lib.Ieee.{Float}
 use borrow.Author.Tests.{leb-true, eq-eqb, ne-eqb}
-use Rattle.solver.specs.Record.{GROUND}
-use Rattle.solver.specs.Scene.{Laid, SceneMade, sceneOf}
-use Rattle.solver.specs.declared.scene.Scene.{Scene as SceneStruct}
+use Rattle.records.specs.Record.{GROUND}
+use Rattle.scene.specs.Scene.{Laid, SceneMade, sceneOf}
+use Rattle.scene.specs.declared.scene.Scene.{Scene as SceneStruct}
 use Rattle.placement.specs.Answer.{Filled}
-use Rattle.placement.specs.HowCloselyLaws.{how-closely, rounds-end}
-use Rattle.placement.specs.Places.{need}
-use Rattle.sheet.specs.Format.{bodiesOf, relationsOf, sceneAt}
-use Rattle.sheet.specs.Refusals.{unless, sheetFault, dragFault, solveScratch, solveFault}
+use Rattle.closeness.specs.HowCloselyLaws.{how-closely, rounds-end}
+use Rattle.rounds.specs.Places.{need}
+use Rattle.format.specs.Format.{bodiesOf, relationsOf}
+use Rattle.sheet.specs.SceneAt.{sceneAt}
+use Rattle.format.specs.Faults.{unless, sheetFault}
+use Rattle.sheet.specs.Refusals.{dragFault, solveScratch, solveFault}
 use Rattle.sheet.specs.Solving.{dragOf, flagOf, SolveAnswer}
-use Rattle.sheet.proofs.RefusalLaws.{none-of}
+use Rattle.format.proofs.RefusalLaws.{none-of}
 use Rattle.sheet.proofs.FigureLaws.{few, row-count, scene-is, unknown-count}
 use Rattle.sheet.proofs.LimitLaws.{all-small}
 

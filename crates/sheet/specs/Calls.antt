@@ -9,13 +9,13 @@ use lib.ListN.{length, drop}
 use lib.Dec.{eqb, ltb}
 use lib.Ieee.{Float}
 use Rattle.vectors.specs.Vec.{Vec, zeroV}
-use Rattle.solver.specs.Geometry.{Pose}
-use Rattle.solver.specs.Model.{Rel, poseOfFrame}
-use Rattle.solver.specs.Rows.{ground}
-use Rattle.solver.specs.Judge.{Reading, jointReading}
-use Rattle.solver.specs.Snap.{Motion, snap}
-use Rattle.solver.specs.Record.{bodyAt, relAt}
-use Rattle.sheet.specs.Format.{bodiesOf, bodyStart, relStart}
+use Rattle.relations.specs.Geometry.{Pose}
+use Rattle.relations.specs.Model.{Rel, poseOfFrame}
+use Rattle.relations.specs.Rows.{ground}
+use Rattle.judging.specs.Judge.{Reading, jointReading}
+use Rattle.snapping.specs.Snap.{Motion, snap}
+use Rattle.records.specs.Record.{bodyAt, relAt}
+use Rattle.format.specs.Format.{bodiesOf, bodyStart, relStart}
 use Rattle.sheet.specs.Refusals.{readingFault, snapFault}
 
 -- relation j

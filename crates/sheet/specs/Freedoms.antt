@@ -6,9 +6,10 @@ use mathlib.Core.List.{List, _++_}
 use lib.ListN.{length, drop}
 use lib.Dec.{eqb}
 use lib.Ieee.{Float}
-use Rattle.solver.specs.Dof.{Freedoms, dof}
-use Rattle.freedom.specs.Layout.{freedomsDoubles}
-use Rattle.sheet.specs.Format.{bodiesOf, sceneAt}
+use Rattle.body_freedom.specs.Dof.{Freedoms, dof}
+use Rattle.body_freedom.specs.Layout.{freedomsDoubles}
+use Rattle.format.specs.Format.{bodiesOf}
+use Rattle.sheet.specs.SceneAt.{sceneAt}
 use Rattle.sheet.specs.Refusals.{dofFault}
 
 -- the answer of `dof` on an accepted sheet

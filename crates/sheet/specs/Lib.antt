@@ -1,6 +1,6 @@
-pub mod Format
+pub mod SceneAt
 pub mod Refusals
-pub mod Fields
 pub mod Calls
 pub mod Solving
 pub mod Freedoms
+pub mod Cases

@@ -8,12 +8,13 @@ use mathlib.Core.Option.{Option, none, some}
 use lib.ListN.{length, drop}
 use lib.Dec.{eqb}
 use lib.Ieee.{Float}
-use Rattle.solver.specs.Record.{GROUND}
-use Rattle.solver.specs.Scene.{posesDoubles}
-use Rattle.solver.specs.Solve.{Solution, MAX-ITER, solve}
+use Rattle.records.specs.Record.{GROUND}
+use Rattle.scene.specs.Scene.{posesDoubles}
+use Rattle.scene.specs.Solve.{Solution, MAX-ITER, solve}
 use Rattle.placement.specs.Answer.{framesDoubles}
-use Rattle.placement.specs.HowClosely.{HowClosely, roundsOf}
-use Rattle.sheet.specs.Format.{bodiesOf, relationsOf, sceneAt}
+use Rattle.closeness.specs.HowClosely.{HowClosely, roundsOf}
+use Rattle.format.specs.Format.{bodiesOf, relationsOf}
+use Rattle.sheet.specs.SceneAt.{sceneAt}
 use Rattle.sheet.specs.Refusals.{solveFault}
 
 -- the dragged body; 65535 is none

@@ -1,28 +1,28 @@
 // The calls that need no iteration, exported for C: judging, `joint_reading` and `snap` of a sheet's relation. Each gives 0, or the number of the test that refuses it
 // and then changes nothing lent. specs/Refusals.antt and specs/Calls.antt have the definitions.
 
-use crate::refusals::sheet_fault;
-use solver::judge::Reading;
-use solver::judge::joint_reading;
-use solver::judge::judge;
-use solver::model::Place;
-use solver::model::Pose;
-use solver::model::Rel;
-use solver::record::body_at;
-use solver::record::rel_at;
-use solver::record::u16_at;
-use solver::snap::Motion;
-use solver::snap::snap;
+use format::refusals::sheet_fault;
+use judging::judge::Reading;
+use judging::judge::joint_reading;
+use judging::judge::judge;
+use records::record::body_at;
+use records::record::rel_at;
+use records::record::u16_at;
+use relations::model::Place;
+use relations::model::Pose;
+use relations::model::Rel;
+use snapping::snap::Motion;
+use snapping::snap::snap;
 use vectors::vec::Vec3;
 ghost use mathlib.Core.Path.{_≡_};
 ghost use mathlib.Core.List.{_++_};
 ghost use Prim.Native.Nat.{_+_, _*_, _≤_, _<_};
 ghost use lib.ListN.{length, drop};
 ghost use Rattle.vectors.specs.Vec.{vec};
-ghost use Rattle.solver.specs.Model.{relOf, pose, bodyNumber};
-ghost use Rattle.solver.specs.Judge.{reading};
-ghost use Rattle.solver.specs.Snap as snapping;
-ghost use Rattle.sheet.specs.Format.{bodiesOf, relStart};
+ghost use Rattle.relations.specs.Model.{relOf, pose, bodyNumber};
+ghost use Rattle.judging.specs.Judge.{reading};
+ghost use Rattle.snapping.specs.Snap as snapping;
+ghost use Rattle.format.specs.Format.{bodiesOf, relStart};
 ghost use Rattle.sheet.specs.Refusals as spec;
 ghost use Rattle.sheet.specs.Calls as calls;
 

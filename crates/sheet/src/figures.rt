@@ -1,17 +1,18 @@
 // How many doubles of scratch `solve` and `dof` need, for a sheet that passes tests 1 to 7.
 
-use solver::record::u16_at;
-use solver::scene::Scene;
-use solver::scene::scene_of;
+use records::record::u16_at;
+use scene::scene::Scene;
+use scene::scene::scene_of;
 ghost use mathlib.Core.Path.{_≡_};
 ghost use Prim.Native.Nat.{_+_, _*_};
-ghost use Rattle.solver.specs.Scene.{SceneMade};
-ghost use Rattle.sheet.specs.Format.{bodiesOf, relationsOf};
+ghost use Rattle.scene.specs.Scene.{SceneMade};
+ghost use Rattle.format.specs.Format.{bodiesOf, relationsOf};
+ghost use Rattle.format.specs.Faults as faults;
 ghost use Rattle.sheet.specs.Refusals as spec;
 
 // The sheet's bodies and relations, the layout of unknowns and the row count.
 pub fn scene_in(s: &[u8]) -> Scene
-    requires { ⌜ spec.sheetFault (now s) ≡ 0 ⌝ }
+    requires { ⌜ faults.sheetFault (now s) ≡ 0 ⌝ }
     ensures { λ r. ⌜ SceneMade (now (s .entry)) 24 (bodiesOf (now (s .entry))) (24 + 136 * bodiesOf (now (s .entry))) (relationsOf (now (s .entry))) r ⌝ }
 {
     let m = u16_at(s, 2) as usize;
@@ -20,7 +21,7 @@ pub fn scene_in(s: &[u8]) -> Scene
 }
 
 pub fn solve_scratch(s: &[u8]) -> usize
-    requires { ⌜ spec.sheetFault (now s) ≡ 0 ⌝ }
+    requires { ⌜ faults.sheetFault (now s) ≡ 0 ⌝ }
     ensures { λ r. ⌜ r ≡ spec.solveScratch (now (s .entry)) ⌝ }
 {
     let c = scene_in(s);
@@ -30,7 +31,7 @@ pub fn solve_scratch(s: &[u8]) -> usize
 }
 
 pub fn dof_scratch(s: &[u8]) -> usize
-    requires { ⌜ spec.sheetFault (now s) ≡ 0 ⌝ }
+    requires { ⌜ faults.sheetFault (now s) ≡ 0 ⌝ }
     ensures { λ r. ⌜ r ≡ spec.dofScratch (now (s .entry)) ⌝ }
 {
     let c = scene_in(s);

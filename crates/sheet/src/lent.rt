@@ -2,14 +2,15 @@
 
 use crate::figures::dof_scratch;
 use crate::figures::solve_scratch;
-use crate::refusals::sheet_fault;
-use solver::record::u16_at;
+use format::refusals::sheet_fault;
+use records::record::u16_at;
 ghost use mathlib.Core.Path.{_≡_};
+ghost use Rattle.format.specs.Faults as faults;
 ghost use Rattle.sheet.specs.Refusals as spec;
 
 // Test 8: the drag is a body's number, or 65535 for none.
 fn drag_fault(sheet: &[u8], drag: u16) -> u32
-    requires { ⌜ spec.sheetFault (now sheet) ≡ 0 ⌝ }
+    requires { ⌜ faults.sheetFault (now sheet) ≡ 0 ⌝ }
     ensures { λ r. ⌜ r ≡ spec.dragFault (now (sheet .entry)) drag ⌝ }
 {
     if drag == 0xFFFF {

@@ -1,8 +1,6 @@
-// The sheet: its reader, its refusals and the calls.
-
+// The calls on a sheet, their refusals and the C interface.
 pub mod calls;
 pub mod figures;
 pub mod freedoms;
 pub mod lent;
-pub mod refusals;
 pub mod solving;

@@ -4,9 +4,9 @@
 use crate::figures::scene_in;
 use crate::lent::solve_fault;
 use placement::solve::solve;
-use solver::model::Place;
+use relations::model::Place;
 ghost use mathlib.Core.Path.{_≡_};
-ghost use Rattle.solver.specs.Model.{bodyNumber};
+ghost use Rattle.relations.specs.Model.{bodyNumber};
 ghost use Rattle.sheet.specs.Solving as solving;
 
 // The dragged body; 65535 is none.

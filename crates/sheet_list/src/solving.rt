@@ -5,9 +5,9 @@ ghost use Prim.Native.Nat.{_<_};
 use crate::words::BEFORE;
 use crate::words::holds;
 use crate::words::word;
+use records::record::u16_at;
 use sheet::freedoms::sheet_dof;
 use sheet::solving::sheet_solve;
-use solver::record::u16_at;
 
 // A call as the list gives it: which one, the relation or the drag, how many doubles are lent of scratch and of each output, and the number that is answered.
 pub struct Call {

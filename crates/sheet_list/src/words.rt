@@ -1,6 +1,6 @@
 // Words of a list: 64 bits, little endian, a double by its bits.
 
-use solver::record::u64_at;
+use records::record::u64_at;
 
 // What stands in lent memory before a call, and its bits.
 pub const BEFORE: f64 = 2.5;

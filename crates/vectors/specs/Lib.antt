@@ -2,14 +2,3 @@ pub mod Tol
 pub mod Vec
 pub mod Space
 pub mod Math
-pub mod Sort
-pub mod Insertion
-pub mod SortLaws
-pub mod BeforeLaws
-pub mod Eigen
-pub mod Flat
-pub mod EigenMemory
-pub mod Eigen6
-pub mod Span
-pub mod Basis
-pub mod Sorted

@@ -1,9 +1,6 @@
-// Vectors, frames, rotations and eigenvalues: vec.rs, space.rs, tol.rs and lib.rs of tenon's geom, math.rs of its assembly.
-pub mod eigen;
-pub mod eigen6;
+// Vectors, frames and rotations: vec.rs, space.rs, tol.rs and lib.rs of tenon's geom, math.rs of its assembly.
 pub mod math;
 pub mod root;
 pub mod space;
-pub mod span;
 pub mod tol;
 pub mod vec;

@@ -1,7 +1,7 @@
 -- `eigen_list::same_column` is safe and ends: the measure is the number of entries that are left. Assumes nothing.
 use Prim.Native.Nat.{_-_, _≤_}
 use native.Mathlib.Omega.{arith}
-use Rattle.vectors.proofs.EigenLaws.{row-within}
+use Rattle.eigen.proofs.EigenLaws.{row-within}
 use Rattle.eigen_list.proofs.same_column.Statement.{statement}
 use Rattle.eigen_list.proofs.same_column.Tie as tie
 

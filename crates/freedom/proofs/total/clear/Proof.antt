@@ -3,10 +3,10 @@ use Rattle.freedom.proofs.TotalLaws.{clear-step}
 use mathlib.Core.Path.{_≡_, refl}
 use Prim.Native.Nat.{_+_, _-_, _≤_}
 use native.Mathlib.Omega.{arith}
-use Rattle.solver.specs.Lm.{listOf}
-use Rattle.solver.specs.Memory.{part, Kept}
-use Rattle.solver.specs.Dof.{zeros}
-use Rattle.solver.proofs.MemoryLaws.{kept-refl, kept-set}
+use Rattle.least_squares.specs.Lm.{listOf}
+use Rattle.least_squares.specs.Memory.{part, Kept}
+use Rattle.body_freedom.specs.Dof.{zeros}
+use Rattle.least_squares.proofs.MemoryLaws.{kept-refl, kept-set}
 use Rattle.freedom.proofs.total.clear.Statement.{statement}
 use Rattle.freedom.proofs.total.clear.Tie as tie
 

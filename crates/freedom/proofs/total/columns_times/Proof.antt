@@ -6,8 +6,8 @@ use native.Mathlib.Omega.{arith}
 use native.Mathlib.Numerals.{add-one}
 use lib.Ieee.{neg}
 use Rattle.numbers.specs.Double.{zero64}
-use Rattle.solver.specs.Lm.{sumFrom}
-use Rattle.solver.proofs.TableLaws.{in-rows}
+use Rattle.least_squares.specs.Lm.{sumFrom}
+use Rattle.least_squares.proofs.TableLaws.{in-rows}
 use Rattle.freedom.proofs.total.columns_times.Statement.{statement}
 use Rattle.freedom.proofs.total.columns_times.Tie as tie
 

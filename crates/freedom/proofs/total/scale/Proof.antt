@@ -3,11 +3,11 @@ use Rattle.freedom.proofs.TotalLaws.{restScaled, scaled-step, scaled-do
 use mathlib.Core.Path.{_≡_, refl, sym, _∙_}
 use Prim.Native.Nat.{_+_, _-_, _≤_}
 use native.Mathlib.Omega.{arith}
-use Rattle.solver.specs.Memory.{part, Kept}
-use Rattle.solver.specs.Scene.{sceneOf}
-use Rattle.solver.specs.Solve.{layout}
-use Rattle.solver.specs.Dof.{scaledFrom}
-use Rattle.solver.proofs.MemoryLaws.{kept-refl}
+use Rattle.least_squares.specs.Memory.{part, Kept}
+use Rattle.scene.specs.Scene.{sceneOf}
+use Rattle.scene.specs.Solve.{layout}
+use Rattle.body_freedom.specs.Dof.{scaledFrom}
+use Rattle.least_squares.proofs.MemoryLaws.{kept-refl}
 use Rattle.freedom.proofs.total.scale.Statement.{statement}
 use Rattle.freedom.proofs.total.scale.Tie as tie
 

@@ -4,11 +4,11 @@ use native.Mathlib.Omega.{arith}
 use lib.ListN.{getD}
 use lib.Ieee.{Float}
 use borrow.Author.Needs.{needs}
-use Rattle.solver.specs.Memory.{part}
-use Rattle.solver.specs.Model.{Body}
-use Rattle.solver.specs.Scene.{firstUnknown, Put}
-use Rattle.solver.specs.Solve.{halfSize}
-use Rattle.solver.proofs.SceneLaws.{laid-first}
+use Rattle.least_squares.specs.Memory.{part}
+use Rattle.relations.specs.Model.{Body}
+use Rattle.scene.specs.Scene.{firstUnknown, Put}
+use Rattle.scene.specs.Solve.{halfSize}
+use Rattle.scene.proofs.SceneLaws.{laid-first}
 use Rattle.freedom.specs.Total.{scaledBy}
 use Rattle.freedom.proofs.total.scale_body.Statement.{statement}
 use Rattle.freedom.proofs.total.scale_body.Tie as tie

@@ -2,7 +2,7 @@
 use Rattle.freedom.proofs.TotalLaws.{scaled-rows-is}
 use mathlib.Core.Path.{_∙_}
 use native.Mathlib.Omega.{arith}
-use Rattle.solver.specs.Scene.{sceneOf}
+use Rattle.scene.specs.Scene.{sceneOf}
 use Rattle.freedom.proofs.total.scaled_rows.Statement.{statement}
 use Rattle.freedom.proofs.total.scaled_rows.Tie as tie
 

@@ -5,8 +5,8 @@ use Prim.Native.Nat.{_+_}
 use native.Mathlib.Omega.{arith}
 use lib.ListN.{getD, length-set}
 use lib.Ieee.{nan}
-use Rattle.solver.specs.Scene.{sceneOf}
-use Rattle.solver.specs.Dof.{scaledRows}
+use Rattle.scene.specs.Scene.{sceneOf}
+use Rattle.body_freedom.specs.Dof.{scaledRows}
 use Rattle.freedom.proofs.total.slope_column.Statement.{statement}
 use Rattle.freedom.proofs.total.slope_column.Tie as tie
 

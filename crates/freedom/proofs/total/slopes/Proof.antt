@@ -3,8 +3,8 @@ use Rattle.freedom.proofs.TotalLaws.{Columns, columns-start, columns-pa
 use mathlib.Core.Path.{sym, _∙_}
 use Prim.Native.Nat.{_-_, _≤_}
 use native.Mathlib.Omega.{arith}
-use Rattle.solver.specs.Scene.{sceneOf}
-use Rattle.solver.specs.Dof.{scaledRows}
+use Rattle.scene.specs.Scene.{sceneOf}
+use Rattle.body_freedom.specs.Dof.{scaledRows}
 use Rattle.freedom.proofs.total.slopes.Statement.{statement}
 use Rattle.freedom.proofs.total.slopes.Tie as tie
 

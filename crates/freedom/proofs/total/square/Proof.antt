@@ -4,8 +4,8 @@ use mathlib.Core.Path.{_≡_}
 use Prim.Native.Nat.{_+_, _-_, _*_, _≤_}
 use native.Mathlib.Omega.{arith}
 use native.Mathlib.Nat.{not-suc-le-zero}
-use Rattle.solver.specs.Memory.{Kept}
-use Rattle.solver.proofs.MemoryLaws.{kept-refl}
+use Rattle.least_squares.specs.Memory.{Kept}
+use Rattle.least_squares.proofs.MemoryLaws.{kept-refl}
 use Rattle.freedom.proofs.total.square.Statement.{statement}
 use Rattle.freedom.proofs.total.square.Tie as tie
 

@@ -6,10 +6,10 @@ use native.Mathlib.Omega.{arith}
 use native.Mathlib.Nat.{not-suc-le-zero}
 use lib.ListN.{getD}
 use lib.Ieee.{nan}
-use Rattle.vectors.proofs.EigenLaws.{row-within}
-use Rattle.solver.specs.Memory.{part, Kept}
-use Rattle.solver.specs.Dof.{columnsTimes}
-use Rattle.solver.proofs.MemoryLaws.{kept-refl}
+use Rattle.eigen.proofs.EigenLaws.{row-within}
+use Rattle.least_squares.specs.Memory.{part, Kept}
+use Rattle.body_freedom.specs.Dof.{columnsTimes}
+use Rattle.least_squares.proofs.MemoryLaws.{kept-refl}
 use Rattle.freedom.proofs.total.square_row.Statement.{statement}
 use Rattle.freedom.proofs.total.square_row.Tie as tie
 

@@ -4,9 +4,9 @@ use mathlib.Core.Path.{_≡_, ap}
 use Prim.Native.Nat.{_+_, _-_, _*_, _≤_}
 use native.Mathlib.Omega.{arith}
 use lib.ListN.{getD}
-use Rattle.solver.specs.Model.{Body}
-use Rattle.solver.specs.Scene.{sceneOf, firstUnknown}
-use Rattle.solver.specs.Dof.{unnamedFrom}
+use Rattle.relations.specs.Model.{Body}
+use Rattle.scene.specs.Scene.{sceneOf, firstUnknown}
+use Rattle.body_freedom.specs.Dof.{unnamedFrom}
 use Rattle.freedom.specs.Total.{unnamedOne}
 use Rattle.freedom.proofs.total.unnamed.Statement.{statement}
 use Rattle.freedom.proofs.total.unnamed.Tie as tie

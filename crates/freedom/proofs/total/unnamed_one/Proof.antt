@@ -1,6 +1,6 @@
 -- `freedom::total::unnamed_one` meets its contract. Assumes nothing.
 use borrow.Author.Tests.{eq-eqb, ne-eqb}
-use Rattle.solver.specs.Scene.{firstUnknown}
+use Rattle.scene.specs.Scene.{firstUnknown}
 use Rattle.freedom.specs.Total.{unnamedOne}
 use Rattle.freedom.proofs.total.unnamed_one.Statement.{statement}
 use Rattle.freedom.proofs.total.unnamed_one.Tie as tie

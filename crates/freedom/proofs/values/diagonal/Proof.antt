@@ -3,10 +3,10 @@ use Rattle.freedom.proofs.ValueLaws.{diagonal-step}
 use mathlib.Core.Path.{_≡_, refl}
 use Prim.Native.Nat.{_+_, _-_, _*_, _≤_}
 use native.Mathlib.Omega.{arith}
-use Rattle.vectors.specs.EigenMemory.{diagonal}
-use Rattle.vectors.proofs.EigenLaws.{row-within}
-use Rattle.solver.specs.Memory.{part, Kept}
-use Rattle.solver.proofs.MemoryLaws.{kept-refl, kept-set}
+use Rattle.eigen.specs.EigenMemory.{diagonal}
+use Rattle.eigen.proofs.EigenLaws.{row-within}
+use Rattle.least_squares.specs.Memory.{part, Kept}
+use Rattle.least_squares.proofs.MemoryLaws.{kept-refl, kept-set}
 use Rattle.freedom.proofs.values.diagonal.Statement.{statement}
 use Rattle.freedom.proofs.values.diagonal.Tie as tie
 

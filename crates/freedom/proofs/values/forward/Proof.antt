@@ -5,8 +5,8 @@ use native.Mathlib.Omega.{arith}
 use lib.ListN.{length, length-set}
 use lib.Ieee.{nan}
 use Rattle.numbers.specs.Double.{before}
-use Rattle.vectors.specs.Insertion.{sink}
-use Rattle.vectors.proofs.Sorting.{sink-on, sink-stop}
+use Rattle.eigen.specs.Insertion.{sink}
+use Rattle.eigen.proofs.Sorting.{sink-on, sink-stop}
 use Rattle.freedom.proofs.values.forward.Statement.{statement}
 use Rattle.freedom.proofs.values.forward.Tie as tie
 

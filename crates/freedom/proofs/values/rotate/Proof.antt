@@ -1,7 +1,7 @@
 -- `freedom::values::rotate` meets its contract. Assumes nothing.
 use native.Mathlib.Omega.{arith}
 use borrow.Author.Needs.{needs}
-use Rattle.vectors.proofs.EigenLaws.{row-within}
+use Rattle.eigen.proofs.EigenLaws.{row-within}
 use Rattle.freedom.specs.Values.{rotated}
 use Rattle.freedom.proofs.values.rotate.Statement.{statement}
 use Rattle.freedom.proofs.values.rotate.Tie as tie

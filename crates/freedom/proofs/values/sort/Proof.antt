@@ -6,7 +6,7 @@ use native.Mathlib.Omega.{arith}
 use lib.ListN.{length}
 use lib.Ieee.{nan}
 use Rattle.numbers.specs.Double.{before}
-use Rattle.vectors.proofs.Sorting.{sortedTo, sorted-start, sorted-step}
+use Rattle.eigen.proofs.Sorting.{sortedTo, sorted-start, sorted-step}
 use Rattle.freedom.proofs.values.sort.Statement.{statement}
 use Rattle.freedom.proofs.values.sort.Tie as tie
 

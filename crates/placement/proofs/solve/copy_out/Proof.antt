@@ -2,8 +2,8 @@
 use mathlib.Core.Path.{_≡_}
 use Prim.Native.Nat.{_-_, _≤_}
 use native.Mathlib.Omega.{arith}
-use Rattle.solver.specs.Memory.{part}
-use Rattle.solver.specs.Scene.{Put}
+use Rattle.least_squares.specs.Memory.{part}
+use Rattle.scene.specs.Scene.{Put}
 use Rattle.placement.proofs.SolveLaws.{put-none, put-entry, part-more, put-front}
 use Rattle.placement.proofs.solve.copy_out.Statement.{statement}
 use Rattle.placement.proofs.solve.copy_out.Tie as tie

@@ -3,8 +3,8 @@
 use mathlib.Core.Path.{_≡_}
 use Prim.Native.Nat.{_*_, _-_, _≤_}
 use native.Mathlib.Omega.{arith}
-use Rattle.solver.specs.Lm.{listOf}
-use Rattle.solver.specs.Scene.{Put}
+use Rattle.least_squares.specs.Lm.{listOf}
+use Rattle.scene.specs.Scene.{Put}
 use Rattle.placement.specs.Answer.{framesDoubles}
 use Rattle.placement.proofs.SolveLaws.{put-none, put-front, frameIn, frames-none, frame-at-is, frames-step, frames-are}
 use Rattle.placement.proofs.solve.put_frames.Statement.{statement}

@@ -2,9 +2,9 @@
 use mathlib.Core.Path.{_≡_, refl}
 use Prim.Native.Nat.{_-_, _≤_}
 use native.Mathlib.Omega.{arith}
-use Rattle.solver.specs.Lm.{listOf}
-use Rattle.solver.specs.Scene.{Put}
-use Rattle.solver.specs.Solve.{startAt}
+use Rattle.least_squares.specs.Lm.{listOf}
+use Rattle.scene.specs.Scene.{Put}
+use Rattle.scene.specs.Solve.{startAt}
 use Rattle.placement.proofs.SolveLaws.{put-none, put-entry, list-none, list-more}
 use Rattle.placement.proofs.solve.put_start.Statement.{statement}
 use Rattle.placement.proofs.solve.put_start.Tie as tie

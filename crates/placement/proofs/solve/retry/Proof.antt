@@ -2,7 +2,7 @@
 use mathlib.Core.Path.{_∙_}
 use native.Mathlib.Omega.{arith}
 use borrow.Author.Needs.{needs}
-use Rattle.solver.specs.Scene.{sceneOf}
+use Rattle.scene.specs.Scene.{sceneOf}
 use Rattle.placement.proofs.SolveLaws.{arranged-same, Again, again-is, retry-converged, retry-smaller, retry-larger}
 use Rattle.placement.proofs.solve.retry.Statement.{statement}
 use Rattle.placement.proofs.solve.retry.Tie as tie

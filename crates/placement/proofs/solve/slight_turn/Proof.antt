@@ -1,7 +1,7 @@
 -- `placement::solve::slight_turn` meets its contract. Assumes nothing.
 use borrow.Author.Tests.{le-leb, lt-leb, eq-eqb, ne-eqb}
 use lib.Ieee.{neg, ofBits}
-use Rattle.solver.specs.Solve.{slightTurn}
+use Rattle.scene.specs.Solve.{slightTurn}
 use Rattle.placement.proofs.solve.slight_turn.Statement.{statement}
 use Rattle.placement.proofs.solve.slight_turn.Tie as tie
 

@@ -1,7 +1,7 @@
 -- `placement::solve::solve` meets its contract. Assumes nothing.
 use native.Mathlib.Omega.{arith}
 use borrow.Author.Needs.{needs}
-use Rattle.solver.specs.Model.{bodyNumber}
+use Rattle.relations.specs.Model.{bodyNumber}
 use Rattle.placement.proofs.SolveLaws.{filled-is}
 use Rattle.placement.proofs.solve.solve.Statement.{statement}
 use Rattle.placement.proofs.solve.solve.Tie as tie

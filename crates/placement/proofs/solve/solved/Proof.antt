@@ -1,8 +1,8 @@
 -- `placement::solve::solved` meets its contract. Assumes nothing.
 use mathlib.Core.Path.{_∙_}
 use borrow.Author.Needs.{needs}
-use Rattle.solver.specs.Model.{bodyNumber}
-use Rattle.solver.specs.Scene.{sceneOf}
+use Rattle.relations.specs.Model.{bodyNumber}
+use Rattle.scene.specs.Scene.{sceneOf}
 use Rattle.placement.proofs.SolveLaws.{arranged-same, Begun, begun-is, first-converged, first-still, twice}
 use Rattle.placement.proofs.solve.solved.Statement.{statement}
 use Rattle.placement.proofs.solve.solved.Tie as tie

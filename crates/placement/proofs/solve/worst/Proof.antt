@@ -1,7 +1,7 @@
 -- `placement::solve::worst` meets its contract. Assumes nothing.
 use native.Mathlib.Omega.{arith}
 use borrow.Author.Needs.{needs}
-use Rattle.solver.specs.Scene.{sceneOf}
+use Rattle.scene.specs.Scene.{sceneOf}
 use Rattle.placement.proofs.SolveLaws.{worst-is}
 use Rattle.placement.proofs.solve.worst.Statement.{statement}
 use Rattle.placement.proofs.solve.worst.Tie as tie

@@ -1,6 +1,6 @@
 -- `sheet::calls::sheet_judge` meets its contract. Assumes nothing.
 use mathlib.Core.Path.{ap, sym, _∙_}
-use Rattle.solver.specs.Judge.{judge}
+use Rattle.judging.specs.Judge.{judge}
 use Rattle.sheet.proofs.CallLaws.{first, judge-parts, later}
 use borrow.Author.Needs.{needs}
 use Rattle.sheet.proofs.calls.sheet_judge.Statement.{statement}

@@ -1,7 +1,7 @@
 -- `sheet::solving::sheet_solve` meets its contract, by the laws of SolvingLaws. Assumes nothing.
 use mathlib.Core.Path.{sym, _∙_}
 use borrow.Author.Needs.{needs}
-use Rattle.solver.specs.Model.{bodyNumber}
+use Rattle.relations.specs.Model.{bodyNumber}
 use Rattle.sheet.proofs.SolvingLaws.{accepted, answered, asked, refused}
 use Rattle.sheet.proofs.solving.sheet_solve.Statement.{statement}
 use Rattle.sheet.proofs.solving.sheet_solve.Tie as tie

@@ -1,0 +1,32 @@
+-- `body_freedom::body_slopes::put_shifted` meets its contract. Assumes nothing.
+use mathlib.Core.Path.{ap, _∙_}
+use borrow.Author.Needs.{needs}
+use Rattle.relations.specs.Model.{Body}
+use Rattle.body_freedom.specs.BodySlopes.{shifted}
+use Rattle.body_freedom.proofs.BodySlopeLaws.{put-as}
+use Rattle.body_freedom.proofs.body_slopes.put_shifted.Statement.{statement}
+use Rattle.body_freedom.proofs.body_slopes.put_shifted.Tie as tie
+
+mul-body-at : tie.Need-mul-body-at
+mul-body-at c = search needs
+
+add-body-at : tie.Need-add-body-at
+add-body-at c = search needs
+
+body-at-requires : tie.Need-body-at-requires
+body-at-requires c κs = search needs
+
+shifted-requires : tie.Need-shifted-requires
+shifted-requires c κs = search needs
+
+put-pose-requires : tie.Need-put-pose-requires
+put-pose-requires c κs = search needs
+
+same-length : tie.Need-same-length
+same-length c = search needs
+
+returns : tie.Need-returns
+returns c = put-as _ _ _ _ _ (c .before .before .before .shifted .ensures ∙ ap (λ (b : Body). shifted b (c .before .before .before .before .before .before .before .before .before .args .x)) (c .before .before .before .before .before .body-at .ensures)) (c .before .before .put-pose .ensures)
+
+pub put-shifted-spec : {M : Type 1} → statement M
+put-shifted-spec = tie.close (tie.spec mul-body-at add-body-at body-at-requires shifted-requires put-pose-requires same-length returns)

@@ -1,0 +1,4 @@
+pub mod Dof
+pub mod Layout
+pub mod BodyFreedom
+pub mod BodySlopes

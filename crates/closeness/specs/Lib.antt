@@ -1,0 +1,4 @@
+pub mod RowBound
+pub mod RowBoundLaws
+pub mod HowClosely
+pub mod HowCloselyLaws

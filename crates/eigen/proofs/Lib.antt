@@ -1,0 +1,4 @@
+pub mod Sorting
+pub mod EigenLaws
+pub mod EigenSortLaws
+pub mod SweepLaws

@@ -1,0 +1,227 @@
+-- Reading gives every field's bits back: of a sheet that passes tests 1 to 7, each body and relation gives back the bytes that it uses. Test 5 puts every byte within its
+-- table, and test 7 leaves no NaN, the one double whose bits are not kept. Assumes nothing.
+use mathlib.Core.Path.{_≡_, refl, sym, _∙_}
+use mathlib.Core.Bool.{Bool, true, false, _&&_, cond}
+use mathlib.Core.List.{List}
+use mathlib.Core.Logic.{⊎-elim}
+use mathlib.Core.Option.{none, some}
+use Prim.Native.Nat.{ℕ, zero, suc, _+_, _*_, _<_, _≤_}
+use native.Mathlib.Nat.{add-assoc, eq-or-lt-of-le, le-of-suc-le-suc}
+use native.Mathlib.Omega.{arith}
+use lib.ListN.{length, getD}
+use lib.Dec.{T, eqb, leb}
+use lib.Ieee.{Float, nan, inf, fin, binary64, isNan, lt, eq, le, ofBits, toBits}
+use lib.Ieee.Bits.{toBits-ofBits}
+use borrow.Author.Tests.{leb-true, eqb-true, eq-eqb}
+use Rattle.numbers.specs.Double.{abs}
+use Rattle.vectors.specs.Vec.{Vec}
+use Rattle.records.specs.Record.{byteAt, u16At, u64At, doubleAt, vecAt, usesJoint, usesFlag, usesPlane, GROUND, bodyNumberAt, primAt, jointKindAt, bodyAt, endAt, lawBy, relAt}
+use Rattle.format.specs.Format.{bodiesOf, relationsOf, bodyStart, relStart}
+use Rattle.format.specs.Faults.{orElse, byteUpTo, within, withinV, THOUSAND, NEAR-ONE, bodyShape, bodyLimits, endShape, endLimits, planeShape, relShape, relNames, relLimits, bodyFault, relFault, headerFault, bodiesFault, relsFault, sheetFault}
+use Rattle.format.proofs.RefusalLaws.{none-of}
+use Rattle.format.specs.Fields.{flagByte, primByte, jointByte, lawByte, bodyWord, DoubleBack, VecBack, BodyBack, PrimBack, EndBack, LawBack, RelBack}
+
+-- every element is a byte
+abbrev pub Bytes : List ℕ → Type 0
+Bytes s = (i : ℕ) → byteAt s i < 256
+
+and-left : (a b : Bool) → a && b ≡ true → a ≡ true
+and-left true b h = refl
+and-left false b h = h
+
+and-right : (a b : Bool) → a && b ≡ true → b ≡ true
+and-right true b h = h
+and-right false b h = cc
+
+-- ---- doubles
+
+number : (limit x : Float) → within limit x ≡ true → isNan x ≡ false
+unfolding within abs le lt eq isNan
+number limit nan h = sym h
+number limit (inf s) h = refl
+number limit (fin s m e) h = refl
+
+double-back : (s : List ℕ) (o : ℕ) (limit : Float) → Bytes s → within limit (doubleAt s o) ≡ true → DoubleBack s o (doubleAt s o)
+unfolding doubleAt
+double-back s o limit b h =
+    let in-word : u64At s o < 0x1_0000_0000_0000_0000 =
+    omega (arith, b o, b (o + 1), b (o + 2), b (o + 3), b (o + 4), b (o + 5), b (o + 6), b (o + 7)) in
+    toBits-ofBits binary64 (u64At s o) in-word (rw (number limit (ofBits binary64 (u64At s o)) h) tt)
+
+vec-back : (s : List ℕ) (o : ℕ) (limit : Float) → Bytes s → withinV limit (vecAt s o) ≡ true → VecBack s o (vecAt s o)
+unfolding withinV
+vec-back s o limit b h =
+    record {
+      x = double-back s o limit b (search (and-left, and-right));
+      y = double-back s (o + 8) limit b (search (and-left, and-right));
+      z = double-back s (o + 16) limit b (search (and-left, and-right));
+    }
+
+-- ---- bytes and numbers
+
+up-to : (used : Bool) (most b : ℕ) → byteUpTo used most b ≡ true → b ≤ most
+unfolding byteUpTo
+up-to true most b h = leb-true b most h
+up-to false most b h = omega (arith, eqb-true b 0 h)
+
+flag-back : (n : ℕ) → n ≤ 1 → flagByte (eqb n 1) ≡ n
+flag-back zero h = refl
+flag-back (suc zero) h = refl
+flag-back (suc (suc n)) h = absurd (omega arith)
+
+word-by : (t : Bool) (b : ℕ) → (t ≡ true → b ≡ GROUND) → bodyWord (cond t none (some b)) ≡ b
+word-by true b h = sym (h refl)
+word-by false b h = refl
+
+word-back : (b : ℕ) → bodyWord (bodyNumberAt b) ≡ b
+unfolding bodyNumberAt
+word-back b = word-by (eqb b GROUND) b (eqb-true b GROUND)
+
+joint-back : (n : ℕ) → n ≤ 5 → jointByte (jointKindAt n) ≡ n
+unfolding jointKindAt
+joint-back zero h = refl
+joint-back (suc zero) h = refl
+joint-back (suc (suc zero)) h = refl
+joint-back (suc (suc (suc zero))) h = refl
+joint-back (suc (suc (suc (suc zero)))) h = refl
+joint-back (suc (suc (suc (suc (suc zero))))) h = refl
+joint-back (suc (suc (suc (suc (suc (suc n)))))) h = absurd (omega arith)
+
+-- ---- bodies
+
+two : (a b : Bool) → _≡_ {A = ℕ} (cond a (cond b 0 7) 5) 0 → (a ≡ true) × (b ≡ true)
+two true true h = (refl, refl)
+two true false h = absurd (let z : _≡_ {A = ℕ} 7 0 = h in omega arith)
+two false b h = absurd (let z : _≡_ {A = ℕ} 5 0 = h in omega arith)
+
+body-of : (s : List ℕ) (o : ℕ) → Bytes s → bodyShape s o ≡ true → bodyLimits s o ≡ true → BodyBack s o (bodyAt s o)
+unfolding bodyShape bodyLimits bodyAt
+body-of s o b shape limits =
+    record {
+      fixed = flag-back (byteAt s o) (leb-true (byteAt s o) 1 (search (and-left, and-right)));
+      origin = vec-back s (o + 8) THOUSAND b (search (and-left, and-right));
+      x = rw (add-assoc o 8 24) (vec-back s (o + 32) NEAR-ONE b (search (and-left, and-right)));
+      y = rw (add-assoc o 8 48) (vec-back s (o + 56) NEAR-ONE b (search (and-left, and-right)));
+      z = rw (add-assoc o 8 72) (vec-back s (o + 80) NEAR-ONE b (search (and-left, and-right)));
+      center = vec-back s (o + 104) THOUSAND b (search (and-left, and-right));
+      size = double-back s (o + 128) THOUSAND b (search (and-left, and-right));
+    }
+
+body-back : (s : List ℕ) (o : ℕ) → Bytes s → bodyFault s o ≡ 0 → BodyBack s o (bodyAt s o)
+unfolding bodyFault
+body-back s o b h = let p = two (bodyShape s o) (bodyLimits s o) h in body-of s o b (p .0) (p .1)
+
+-- ---- ends
+
+prim-number : (n : ℕ) (p d : Vec Float) (r : Float) → n ≤ 3 → primByte (primAt n p d r) ≡ n
+unfolding primAt
+prim-number zero p d r h = refl
+prim-number (suc zero) p d r h = refl
+prim-number (suc (suc zero)) p d r h = refl
+prim-number (suc (suc (suc zero))) p d r h = refl
+prim-number (suc (suc (suc (suc n)))) p d r h = absurd (omega arith)
+
+prim-back : (s : List ℕ) (e n : ℕ) (p d : Vec Float) (r : Float) → VecBack s (e + 8) p → VecBack s (e + 32) d → DoubleBack s (e + 56) r → PrimBack s e (primAt n p d r)
+unfolding primAt
+prim-back s e zero p d r x y z = (x, y)
+prim-back s e (suc zero) p d r x y z = (x, y)
+prim-back s e (suc (suc zero)) p d r x y z = x
+prim-back s e (suc (suc (suc n))) p d r x y z = (x, (y, z))
+
+end-back : (law : ℕ) (s : List ℕ) (e : ℕ) → Bytes s → endShape law s e ≡ true → endLimits s e ≡ true → EndBack s e (endAt s e)
+unfolding endShape endLimits endAt
+end-back law s e b shape limits =
+    record {
+      kind = prim-number (byteAt s e) _ _ _ (leb-true (byteAt s e) 3 (search (and-left, and-right)));
+      mirrored = flag-back (byteAt s (e + 1)) (up-to (usesJoint law) 1 (byteAt s (e + 1)) (search (and-left, and-right)));
+      body = word-back (u16At s (e + 2));
+      prim =
+          prim-back s e (byteAt s e) (vecAt s (e + 8)) (vecAt s (e + 32)) (doubleAt s (e + 56)) (vec-back s (e + 8) THOUSAND b (search (and-left, and-right)))
+          (vec-back s (e + 32) NEAR-ONE b (search (and-left, and-right))) (double-back s (e + 56) THOUSAND b (search (and-left, and-right)));
+      radius = double-back s (e + 64) THOUSAND b (search (and-left, and-right));
+    }
+
+-- ---- relations
+
+law-number : (n : ℕ) (s : List ℕ) (r : ℕ) → n ≤ 6 → lawByte (lawBy n s r) ≡ n
+unfolding lawBy
+law-number zero s r h = refl
+law-number (suc zero) s r h = refl
+law-number (suc (suc zero)) s r h = refl
+law-number (suc (suc (suc zero))) s r h = refl
+law-number (suc (suc (suc (suc zero)))) s r h = refl
+law-number (suc (suc (suc (suc (suc zero))))) s r h = refl
+law-number (suc (suc (suc (suc (suc (suc zero)))))) s r h = refl
+law-number (suc (suc (suc (suc (suc (suc (suc n))))))) s r h = absurd (omega arith)
+
+law-back : (n : ℕ) (s : List ℕ) (r : ℕ) → byteAt s (r + 1) ≤ 5 → byteAt s (r + 2) ≤ 1 → DoubleBack s (r + 8) (doubleAt s (r + 8)) → DoubleBack s (r + 16) (doubleAt s (r + 16))
+    → VecBack s (r + 24) (vecAt s (r + 24)) → (n ≡ 5 → EndBack s (r + 192) (endAt s (r + 192))) → LawBack s r (lawBy n s r)
+unfolding lawBy
+law-back zero s r j f off want v plane = off
+law-back (suc zero) s r j f off want v plane = off
+law-back (suc (suc zero)) s r j f off want v plane = (want, v)
+law-back (suc (suc (suc zero))) s r j f off want v plane = (off, flag-back _ f)
+law-back (suc (suc (suc (suc zero)))) s r j f off want v plane = (off, flag-back _ f)
+law-back (suc (suc (suc (suc (suc zero))))) s r j f off want v plane = plane refl
+law-back (suc (suc (suc (suc (suc (suc n)))))) s r j f off want v plane = (joint-back _ j, (flag-back _ f, (off, want)))
+
+plane-used : (law : ℕ) (s : List ℕ) (e : ℕ) → planeShape law s e ≡ true → law ≡ 5 → endShape law s e ≡ true
+unfolding planeShape
+plane-used law s e h p = rw (eq-eqb law 5 p) at h
+
+rel-of : (s : List ℕ) (r : ℕ) → Bytes s → relShape s r ≡ true → relLimits s r ≡ true → RelBack s r (relAt s r)
+unfolding relShape relLimits relAt
+rel-of s r b shape limits =
+    let law = byteAt s r in
+    record {
+      number = law-number law s r (leb-true law 6 (search (and-left, and-right) depth 12));
+      law =
+          law-back law s r (up-to (usesJoint law) 5 (byteAt s (r + 1)) (search (and-left, and-right) depth 12)) (up-to (usesFlag law) 1 (byteAt s (r + 2)) (search (and-left, and-right) depth 12))
+          (double-back s (r + 8) THOUSAND b (search (and-left, and-right) depth 12)) (double-back s (r + 16) THOUSAND b (search (and-left, and-right) depth 12))
+          (vec-back s (r + 24) NEAR-ONE b (search (and-left, and-right) depth 12))
+          (λ p. end-back law s (r + 192) b (plane-used law s (r + 192) (search (and-left, and-right) depth 12) p) (search (and-left, and-right) depth 12));
+      a = end-back law s (r + 48) b (search (and-left, and-right) depth 12) (search (and-left, and-right) depth 12);
+      b = end-back law s (r + 120) b (search (and-left, and-right) depth 12) (search (and-left, and-right) depth 12);
+    }
+
+three : (a n l : Bool) → _≡_ {A = ℕ} (cond a (cond n (cond l 0 7) 6) 5) 0 → (a ≡ true) × (l ≡ true)
+three true true true h = (refl, refl)
+three true true false h = absurd (let z : _≡_ {A = ℕ} 7 0 = h in omega arith)
+three true false l h = absurd (let z : _≡_ {A = ℕ} 6 0 = h in omega arith)
+three false n l h = absurd (let z : _≡_ {A = ℕ} 5 0 = h in omega arith)
+
+rel-back : (m : ℕ) (s : List ℕ) (r : ℕ) → Bytes s → relFault m s r ≡ 0 → RelBack s r (relAt s r)
+unfolding relFault
+rel-back m s r b h = let p = three (relShape s r) (relNames m s r) (relLimits s r) h in rel-of s r b (p .0) (p .1)
+
+-- ---- the sheet
+
+each-body : (s : List ℕ) (m i : ℕ) → bodiesFault s m ≡ 0 → i < m → bodyFault s (bodyStart i) ≡ 0
+unfolding bodiesFault
+each-body s zero i h l = absurd (omega arith)
+each-body s (suc m) i h l =
+    let p = none-of (bodiesFault s m) (bodyFault s (bodyStart m)) h in
+    ⊎-elim (λ (e : i ≡ m). rw e (p .1)) (λ (k : i < m). each-body s m i (p .0) k) (eq-or-lt-of-le (le-of-suc-le-suc l))
+
+each-rel : (s : List ℕ) (k j : ℕ) → relsFault s k ≡ 0 → j < k → relFault (bodiesOf s) s (relStart (bodiesOf s) j) ≡ 0
+unfolding relsFault
+each-rel s zero j h l = absurd (omega arith)
+each-rel s (suc k) j h l =
+    let p = none-of (relsFault s k) (relFault (bodiesOf s) s (relStart (bodiesOf s) k)) h in
+    ⊎-elim (λ (e : j ≡ k). rw e (p .1)) (λ (i : j < k). each-rel s k j (p .0) i) (eq-or-lt-of-le (le-of-suc-le-suc l))
+
+-- of a sheet that passes tests 1 to 7, every body gives its fields back, and every relation
+pub bodies-back : (s : List ℕ) → Bytes s → sheetFault s ≡ 0 → (i : ℕ) → i < bodiesOf s → BodyBack s (bodyStart i) (bodyAt s (bodyStart i))
+unfolding sheetFault
+bodies-back s b h i l =
+    let p = none-of (headerFault s) (orElse (bodiesFault s (bodiesOf s)) (relsFault s (relationsOf s))) h in
+    let q = none-of (bodiesFault s (bodiesOf s)) (relsFault s (relationsOf s)) (p .1) in
+    body-back s (bodyStart i) b (each-body s (bodiesOf s) i (q .0) l)
+
+pub rels-back : (s : List ℕ) → Bytes s → sheetFault s ≡ 0 → (j : ℕ) → j < relationsOf s
+    → RelBack s (relStart (bodiesOf s) j) (relAt s (relStart (bodiesOf s) j))
+unfolding sheetFault
+rels-back s b h j l =
+    let p = none-of (headerFault s) (orElse (bodiesFault s (bodiesOf s)) (relsFault s (relationsOf s))) h in
+    let q = none-of (bodiesFault s (bodiesOf s)) (relsFault s (relationsOf s)) (p .1) in
+    rel-back (bodiesOf s) s (relStart (bodiesOf s) j) b (each-rel s (relationsOf s) j (q .1) l)

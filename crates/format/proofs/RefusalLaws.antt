@@ -1,0 +1,75 @@
+-- The tests taken one more record at a time, and what a header that passes says of the sheet's length. Assumes nothing.
+use mathlib.Core.Path.{_≡_, refl, sym, _∙_}
+use mathlib.Core.Bool.{Bool, true, false, _&&_, cond}
+use mathlib.Core.List.{List}
+use Prim.Native.Nat.{ℕ, zero, suc, _+_, _*_, _≤_}
+use native.Mathlib.Numerals.{add-one}
+use native.Mathlib.Omega.{arith}
+use lib.ListN.{length}
+use lib.Dec.{eqb, leb}
+use borrow.Author.Tests.{leb-true, eqb-true}
+use Rattle.records.specs.Record.{byteAt, u16At, zeroBytes}
+use Rattle.format.specs.Format.{bodiesOf, relationsOf, bodyStart, relStart}
+use Rattle.format.specs.Faults.{orElse, headerFault, headerZeros, headerCounts, headerOffsets, bodyFault, relFault, bodiesFault, relsFault, sheetFault}
+
+-- ---- one more
+
+pub zero-bytes-more : (s : List ℕ) (o i : ℕ) (z : Bool) → z ≡ zeroBytes s o i → z && eqb (byteAt s (o + i)) 0 ≡ zeroBytes s o (i + 1)
+unfolding zeroBytes
+zero-bytes-more s o i z h = rw (add-one i, h)
+
+pub bodies-more : (s : List ℕ) (i f g : ℕ) → f ≡ bodiesFault s i → g ≡ bodyFault s (bodyStart i) → orElse f g ≡ bodiesFault s (i + 1)
+unfolding bodiesFault
+bodies-more s i f g p q = rw (add-one i, p, q)
+
+pub rels-more : (s : List ℕ) (m j f g : ℕ) → m ≡ bodiesOf s → f ≡ relsFault s j → g ≡ relFault m s (relStart m j) → orElse f g ≡ relsFault s (j + 1)
+unfolding relsFault
+rels-more s m j f g e p q = rw (add-one j, p, q, e)
+
+-- ---- the first that is not 0
+
+pub or-else-first : (a b : ℕ) → (a ≡ 0 → ⊥) → a ≡ orElse a b
+or-else-first zero b h = absurd (h refl)
+or-else-first (suc a) b h = refl
+
+pub none-of : (a b : ℕ) → orElse a b ≡ 0 → (a ≡ 0) × (b ≡ 0)
+none-of zero b h = (refl, h)
+none-of (suc a) b h = absurd (omega arith)
+
+-- ---- the header
+
+and-right : (a b : Bool) → a && b ≡ true → b ≡ true
+and-right true b h = h
+and-right false b h = cc
+
+passes : (a b c d : Bool) → _≡_ {A = ℕ} (cond a (cond b (cond c (cond d 0 4) 3) 2) 1) 0 → (a ≡ true) × (d ≡ true)
+passes true true true true h = (refl, refl)
+passes true true true false h = absurd (let z : _≡_ {A = ℕ} 4 0 = h in omega arith)
+passes true true false d h = absurd (let z : _≡_ {A = ℕ} 3 0 = h in omega arith)
+passes true false c d h = absurd (let z : _≡_ {A = ℕ} 2 0 = h in omega arith)
+passes false b c d h = absurd (let z : _≡_ {A = ℕ} 1 0 = h in omega arith)
+
+-- a sheet whose header passes holds the header, and has the length of its records
+pub record Sized (s : List ℕ) : Type 0 where
+  pub header : 24 ≤ length s
+  pub whole : length s ≡ relStart (bodiesOf s) (relationsOf s)
+
+pub header-passes : (s : List ℕ) → headerFault s ≡ 0 → Sized s
+unfolding headerFault headerOffsets
+header-passes s h =
+    let p = passes (leb 24 (length s)) (headerZeros s) (headerCounts s) (headerOffsets s) h in
+    record {
+      header = leb-true 24 (length s) (p .0);
+      whole = eqb-true (length s) (relStart (bodiesOf s) (relationsOf s)) (search (and-right, p .1));
+    }
+
+-- ---- the whole sheet
+
+pub sheet-stops : (s : List ℕ) (h : ℕ) → h ≡ headerFault s → (h ≡ 0 → ⊥) → h ≡ sheetFault s
+unfolding sheetFault
+sheet-stops s h e ne = rw (← e) (or-else-first h _ ne)
+
+pub sheet-records : (s : List ℕ) (h m k b r w : ℕ) → h ≡ headerFault s → h ≡ 0 → m ≡ bodiesOf s → k ≡ relationsOf s
+    → b ≡ bodiesFault s m → r ≡ relsFault s k → w ≡ orElse b r → w ≡ sheetFault s
+unfolding sheetFault
+sheet-records s h m k b r w eh z em ek eb er ew = let e : headerFault s ≡ 0 = sym eh ∙ z in rw (ew, eb, er, em, ek, e)

@@ -1,0 +1,34 @@
+-- `format::refusals::rel_fault` meets its contract. Assumes nothing.
+use mathlib.Core.Path.{sym, _∙_}
+use Rattle.format.specs.Faults.{relFault}
+use borrow.Author.Needs.{needs}
+use Rattle.format.proofs.refusals.rel_fault.Statement.{statement}
+use Rattle.format.proofs.refusals.rel_fault.Tie as tie
+
+rel-shape-requires : tie.Need-rel-shape-requires
+rel-shape-requires c κs = search needs
+
+rel-names-requires : tie.Need-rel-names-requires
+rel-names-requires c κs = search needs
+
+rel-limits-requires : tie.Need-rel-limits-requires
+rel-limits-requires c κs = search needs
+
+returns : tie.Need-returns
+unfolding relFault
+returns c = rw (sym (c .before .before .before .before .before .rel-shape .ensures) ∙ c .before .before .before .before .if1 .taken, sym (c .before .before .before .rel-names .ensures) ∙ c .before .before .if2 .taken, sym (c .before .rel-limits .ensures) ∙ c .if3 .taken)
+
+returns-2 : tie.Need-returns-2
+unfolding relFault
+returns-2 c = rw (sym (c .before .before .before .before .before .rel-shape .ensures) ∙ c .before .before .before .before .if1 .taken, sym (c .before .before .before .rel-names .ensures) ∙ c .before .before .if2 .taken, sym (c .before .rel-limits .ensures) ∙ c .if3 .left)
+
+returns-3 : tie.Need-returns-3
+unfolding relFault
+returns-3 c = rw (sym (c .before .before .before .rel-shape .ensures) ∙ c .before .before .if1 .taken, sym (c .before .rel-names .ensures) ∙ c .if2 .left)
+
+returns-4 : tie.Need-returns-4
+unfolding relFault
+returns-4 c = rw (sym (c .before .rel-shape .ensures) ∙ c .if1 .left)
+
+pub rel-fault-spec : {M : Type 1} → statement M
+rel-fault-spec = tie.close (tie.spec rel-shape-requires rel-names-requires rel-limits-requires returns returns-2 returns-3 returns-4)

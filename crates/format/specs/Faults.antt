@@ -1,0 +1,137 @@
+-- Which number a sheet gives, or 0 for none, for any bytes. Document 01, "What a call says", the table of refusals: tests 1 to 4, then each record in order by 5, 6, 7.
+-- Definitions only.
+use Prim.Native.Nat.{ℕ, zero, suc, _+_}
+use mathlib.Core.Bool.{Bool, not, _&&_, _||_, cond}
+use mathlib.Core.List.{List}
+use lib.ListN.{length}
+use lib.Dec.{eqb, leb, ltb}
+use lib.Ieee.{Float, binary64, le, ofBits}
+use Rattle.numbers.specs.Double.{abs}
+use Rattle.vectors.specs.Vec.{Vec}
+use Rattle.records.specs.Record.{byteAt, u16At, u32At, doubleAt, vecAt, zeroBytes, usesOffset, usesAngle, usesReference, usesFlag, usesJoint, usesEndRadius, usesPlane, usesDirection, usesCircleRadius, GROUND}
+use Rattle.format.specs.Format.{bodiesOf, relationsOf, bodyStart, relStart}
+
+-- the first of two tests' numbers that is not 0; the second is asked only where the first gives 0
+abbrev pub orElse : ℕ → ℕ → ℕ
+orElse zero b = b
+orElse (suc a) b = suc a
+
+-- the number where the test fails
+abbrev pub unless : Bool → ℕ → ℕ
+unless ok number = cond ok 0 number
+
+-- ---- 1 to 4: the header
+
+unfoldable pub headerZeros : List ℕ → Bool
+headerZeros s = eqb (u16At s 0) 1 && (eqb (u16At s 6) 0 && eqb (u32At s 20) 0)
+
+unfoldable pub headerCounts : List ℕ → Bool
+headerCounts s = leb (bodiesOf s) 64 && leb (relationsOf s) 128
+
+unfoldable pub headerOffsets : List ℕ → Bool
+headerOffsets s =
+    eqb (u32At s 8) 24
+    && (eqb (u32At s 12) (bodyStart (bodiesOf s)) && (eqb (u32At s 16) (relStart (bodiesOf s) (relationsOf s)) && eqb (length s) (relStart (bodiesOf s) (relationsOf s))))
+
+unfoldable pub headerFault : List ℕ → ℕ
+headerFault s =
+    cond (leb 24 (length s)) (cond (headerZeros s) (cond (headerCounts s) (unless (headerOffsets s) 4) 3) 2) 1
+
+-- ---- 5: bytes within their values, unused fields 0
+
+-- a byte that is up to `most` where it is used, and 0 else
+unfoldable pub byteUpTo : Bool → ℕ → ℕ → Bool
+byteUpTo used most b = cond used (leb b most) (eqb b 0)
+
+-- n bytes from o on, 0 unless they are used
+unfoldable pub usedOrZero : Bool → List ℕ → ℕ → ℕ → Bool
+usedOrZero used s o n = used || zeroBytes s o n
+
+unfoldable pub bodyShape : List ℕ → ℕ → Bool
+bodyShape s o = leb (byteAt s o) 1 && zeroBytes s (o + 1) 7
+
+unfoldable pub endShape : ℕ → List ℕ → ℕ → Bool
+endShape law s e =
+    leb (byteAt s e) 3
+    && (byteUpTo (usesJoint law) 1 (byteAt s (e + 1))
+    && (zeroBytes s (e + 4) 4
+    && (usedOrZero (usesDirection (byteAt s e)) s (e + 32) 24 && (usedOrZero (usesCircleRadius (byteAt s e)) s (e + 56) 8 && usedOrZero (usesEndRadius law) s (e + 64) 8))))
+
+-- the third end, all 0 unless it is used
+unfoldable pub planeShape : ℕ → List ℕ → ℕ → Bool
+planeShape law s e = cond (usesPlane law) (endShape law s e) (zeroBytes s e 72)
+
+unfoldable pub relShape : List ℕ → ℕ → Bool
+relShape s r =
+    let law = byteAt s r in
+    leb law 6
+    && (byteUpTo (usesJoint law) 5 (byteAt s (r + 1))
+    && (byteUpTo (usesFlag law) 1 (byteAt s (r + 2))
+    && (zeroBytes s (r + 3) 5
+    && (usedOrZero (usesOffset law) s (r + 8) 8
+    && (usedOrZero (usesAngle law) s (r + 16) 8
+    && (usedOrZero (usesReference law) s (r + 24) 24
+    && (endShape law s (r + 48) && (endShape law s (r + 120) && planeShape law s (r + 192)))))))))
+
+-- ---- 6: every end that is used names a body or the ground
+
+unfoldable pub endNames : ℕ → List ℕ → ℕ → Bool
+endNames m s e = eqb (u16At s (e + 2)) GROUND || ltb (u16At s (e + 2)) m
+
+unfoldable pub relNames : ℕ → List ℕ → ℕ → Bool
+relNames m s r = endNames m s (r + 48) && (endNames m s (r + 120) && (not (usesPlane (byteAt s r)) || endNames m s (r + 192)))
+
+-- ---- 7: doubles within their limits; a NaN is not
+
+-- 1.01 for directions, frame axes and the reference; 1000 for all else
+abbrev pub NEAR-ONE : Float
+NEAR-ONE = ofBits binary64 0x3FF0_28F5_C28F_5C29
+
+abbrev pub THOUSAND : Float
+THOUSAND = ofBits binary64 0x408F_4000_0000_0000
+
+unfoldable pub within : Float → Float → Bool
+within limit x = le (abs x) limit
+
+unfoldable pub withinV : Float → Vec Float → Bool
+withinV limit v = within limit (v .x) && (within limit (v .y) && within limit (v .z))
+
+unfoldable pub bodyLimits : List ℕ → ℕ → Bool
+bodyLimits s o =
+    withinV THOUSAND (vecAt s (o + 8))
+    && (withinV NEAR-ONE (vecAt s (o + 32))
+    && (withinV NEAR-ONE (vecAt s (o + 56))
+    && (withinV NEAR-ONE (vecAt s (o + 80)) && (withinV THOUSAND (vecAt s (o + 104)) && within THOUSAND (doubleAt s (o + 128))))))
+
+unfoldable pub endLimits : List ℕ → ℕ → Bool
+endLimits s e =
+    withinV THOUSAND (vecAt s (e + 8))
+    && (withinV NEAR-ONE (vecAt s (e + 32)) && (within THOUSAND (doubleAt s (e + 56)) && within THOUSAND (doubleAt s (e + 64))))
+
+-- an unused field is 0 by then, and 0 is within every limit
+unfoldable pub relLimits : List ℕ → ℕ → Bool
+relLimits s r =
+    within THOUSAND (doubleAt s (r + 8))
+    && (within THOUSAND (doubleAt s (r + 16))
+    && (withinV NEAR-ONE (vecAt s (r + 24)) && (endLimits s (r + 48) && (endLimits s (r + 120) && endLimits s (r + 192)))))
+
+-- ---- the records in order
+
+unfoldable pub bodyFault : List ℕ → ℕ → ℕ
+bodyFault s o = cond (bodyShape s o) (unless (bodyLimits s o) 7) 5
+
+unfoldable pub relFault : ℕ → List ℕ → ℕ → ℕ
+relFault m s r = cond (relShape s r) (cond (relNames m s r) (unless (relLimits s r) 7) 6) 5
+
+-- the first fault among the first i bodies, and among the first j relations
+unfoldable pub bodiesFault : List ℕ → ℕ → ℕ
+bodiesFault s zero = 0
+bodiesFault s (suc i) = orElse (bodiesFault s i) (bodyFault s (bodyStart i))
+
+unfoldable pub relsFault : List ℕ → ℕ → ℕ
+relsFault s zero = 0
+relsFault s (suc j) = orElse (relsFault s j) (relFault (bodiesOf s) s (relStart (bodiesOf s) j))
+
+-- 1 to 7: what every call asks of the sheet
+unfoldable pub sheetFault : List ℕ → ℕ
+sheetFault s = orElse (headerFault s) (orElse (bodiesFault s (bodiesOf s)) (relsFault s (relationsOf s)))

@@ -1,0 +1,3 @@
+pub mod Judge
+pub mod Count
+pub mod CountLaws

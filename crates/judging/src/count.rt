@@ -1,0 +1,253 @@
+// How many rows a relation has. `specs/Count.antt` has the definitions.
+ghost use mathlib.Core.Path.{_≡_};
+ghost use Rattle.relations.specs.Geometry.{prim};
+ghost use Rattle.relations.specs.Model.{lawOf, endOf};
+ghost use Rattle.judging.specs.Count as spec;
+use crate::judge::has_direction;
+use crate::judge::is_circle;
+use relations::geometry::Prim;
+use relations::model::JointKind;
+use relations::model::Law;
+use relations::model::Rel;
+use relations::rows::is_plane;
+use relations::rows::mate_prim;
+
+fn mate_count(a: Prim, b: Prim) -> usize
+    ensures { λ r. ⌜ r ≡ spec.mateCount (prim a) (prim b) ⌝ }
+{
+    match a {
+        Prim::Plane {
+            point: _,
+            normal: _,
+        } => match b {
+            Prim::Plane {
+                point: _,
+                normal: _,
+            } => 4,
+            Prim::Line { point: _, dir: _ } => 2,
+            Prim::Point(_) => 1,
+            Prim::Circle {
+                center: _,
+                normal: _,
+                radius: _,
+            } => 0,
+        },
+        Prim::Line { point: _, dir: _ } => match b {
+            Prim::Plane {
+                point: _,
+                normal: _,
+            } => 2,
+            Prim::Line { point: _, dir: _ } => 6,
+            Prim::Point(_) => 3,
+            Prim::Circle {
+                center: _,
+                normal: _,
+                radius: _,
+            } => 0,
+        },
+        Prim::Point(_) => match b {
+            Prim::Plane {
+                point: _,
+                normal: _,
+            } => 1,
+            Prim::Line { point: _, dir: _ } => 3,
+            Prim::Point(_) => 3,
+            Prim::Circle {
+                center: _,
+                normal: _,
+                radius: _,
+            } => 0,
+        },
+        Prim::Circle {
+            center: _,
+            normal: _,
+            radius: _,
+        } => 0,
+    }
+}
+
+fn tangent_count(a: Prim, b: Prim) -> usize
+    ensures { λ r. ⌜ r ≡ spec.tangentCount (prim a) (prim b) ⌝ }
+{
+    match a {
+        Prim::Plane {
+            point: _,
+            normal: _,
+        } => match b {
+            Prim::Plane {
+                point: _,
+                normal: _,
+            } => 0,
+            Prim::Line { point: _, dir: _ } => 2,
+            Prim::Point(_) => 1,
+            Prim::Circle {
+                center: _,
+                normal: _,
+                radius: _,
+            } => 0,
+        },
+        Prim::Line { point: _, dir: _ } => match b {
+            Prim::Plane {
+                point: _,
+                normal: _,
+            } => 2,
+            Prim::Line { point: _, dir: _ } => 4,
+            Prim::Point(_) => 1,
+            Prim::Circle {
+                center: _,
+                normal: _,
+                radius: _,
+            } => 0,
+        },
+        Prim::Point(_) => match b {
+            Prim::Plane {
+                point: _,
+                normal: _,
+            } => 1,
+            Prim::Line { point: _, dir: _ } => 1,
+            Prim::Point(_) => 1,
+            Prim::Circle {
+                center: _,
+                normal: _,
+                radius: _,
+            } => 0,
+        },
+        Prim::Circle {
+            center: _,
+            normal: _,
+            radius: _,
+        } => 0,
+    }
+}
+
+fn mirror_count(a: Prim, b: Prim) -> usize
+    ensures { λ r. ⌜ r ≡ spec.mirrorCount (prim a) (prim b) ⌝ }
+{
+    match a {
+        Prim::Plane {
+            point: _,
+            normal: _,
+        } => match b {
+            Prim::Plane {
+                point: _,
+                normal: _,
+            } => 4,
+            Prim::Line { point: _, dir: _ } => 0,
+            Prim::Point(_) => 0,
+            Prim::Circle {
+                center: _,
+                normal: _,
+                radius: _,
+            } => 0,
+        },
+        Prim::Line { point: _, dir: _ } => match b {
+            Prim::Plane {
+                point: _,
+                normal: _,
+            } => 0,
+            Prim::Line { point: _, dir: _ } => 6,
+            Prim::Point(_) => 0,
+            Prim::Circle {
+                center: _,
+                normal: _,
+                radius: _,
+            } => 0,
+        },
+        Prim::Point(_) => match b {
+            Prim::Plane {
+                point: _,
+                normal: _,
+            } => 0,
+            Prim::Line { point: _, dir: _ } => 0,
+            Prim::Point(_) => 3,
+            Prim::Circle {
+                center: _,
+                normal: _,
+                radius: _,
+            } => 0,
+        },
+        Prim::Circle {
+            center: _,
+            normal: _,
+            radius: _,
+        } => 0,
+    }
+}
+
+fn joint_count(kind: JointKind) -> usize
+    ensures { λ r. ⌜ r ≡ spec.jointCount kind ⌝ }
+{
+    match kind {
+        JointKind::Rigid => 7,
+        JointKind::Revolute => 6,
+        JointKind::Slider => 7,
+        JointKind::Cylindrical => 6,
+        JointKind::Planar => 4,
+        JointKind::Ball => 3,
+    }
+}
+
+fn law_count(law: Law, a: Prim, b: Prim) -> usize
+    ensures { λ r. ⌜ r ≡ spec.rowCount (lawOf law) (prim a) (prim b) ⌝ }
+{
+    match law {
+        Law::Mate { offset: _ } => mate_count(mate_prim(a), mate_prim(b)),
+        Law::Flush { offset: _ } => {
+            if is_plane(a) {
+                if is_plane(b) { 4 } else { 0 }
+            } else {
+                0
+            }
+        }
+        Law::Angle {
+            angle: _,
+            reference: _,
+        } => {
+            if has_direction(a) {
+                if has_direction(b) { 1 } else { 0 }
+            } else {
+                0
+            }
+        }
+        Law::Insert {
+            offset: _,
+            aligned: _,
+        } => {
+            if is_circle(a) {
+                if is_circle(b) { 6 } else { 0 }
+            } else {
+                0
+            }
+        }
+        Law::Tangent {
+            offset: _,
+            inside: _,
+        } => tangent_count(a, b),
+        Law::Symmetry { plane } => {
+            let p = plane.prim;
+            if is_plane(p) {
+                mirror_count(mate_prim(a), mate_prim(b))
+            } else {
+                0
+            }
+        }
+        Law::Joint {
+            joint,
+            flip: _,
+            offset: _,
+            angle: _,
+        } => joint_count(joint),
+    }
+}
+
+// The number of rows that `residual` gives, wherever the ends stand.
+pub fn row_count(rel: Rel) -> usize
+    ensures { λ r. ⌜ r ≡ spec.rowCount (lawOf (rel .law)) (endOf (rel .a) .prim) (endOf (rel .b) .prim) ⌝ }
+{
+    let law = rel.law;
+    let a = rel.a;
+    let b = rel.b;
+    let pa = a.prim;
+    let pb = b.prim;
+    law_count(law, pa, pb)
+}

@@ -1,0 +1,4 @@
+pub mod MemoryLaws
+pub mod TableLaws
+pub mod LmLaws
+pub mod DenseLaws

@@ -1,0 +1,202 @@
+-- Facts for the loops of lm.rs: diagonal places lie in the matrix, and what a store on the diagonal or in a row does to its part. Assumes nothing.
+use mathlib.Core.Path.{_≡_, refl, sym, ap, subst, _∙_}
+use mathlib.Core.List.{List, [], _∷_, _++_}
+use Prim.Native.Nat.{ℕ, zero, suc, _+_, _-_, _*_, _≤_, _<_, min, max}
+use mathlib.Core.Logic.{inl, inr}
+use native.Mathlib.Omega.{arith}
+use native.Mathlib.Nat.{zero-add, mul-le-mul-right, suc-mul, eq-or-lt-of-le, le-of-suc-le-suc}
+use native.Mathlib.Numerals.{add-one}
+use lib.ListN.{length, getD, set, take, drop, length-drop}
+use lib.Seq.{drop-set-add, take-suc-set, take-suc, getD-drop, getD-set-same, getD-set-other, ext-getD}
+use lib.Ieee.{Float, nan, binary64, sub, mul}
+use Rattle.numbers.specs.Double.{zero64}
+use Rattle.least_squares.specs.Memory.{part, Kept}
+use Rattle.least_squares.specs.Lm.{listOf, sumFrom, gram, gramAt, normal, normalAt, steppedAt, stepped}
+use Rattle.least_squares.specs.LmPosts.{MatrixRow}
+use Rattle.least_squares.proofs.MemoryLaws.{part-at, part-set, part-length, kept-set, kept-trans, kept-wider, kept-at-below, kept-at-above, kept-part-below, kept-part-above}
+use Rattle.least_squares.proofs.TableLaws.{in-rows, sum-same, table-ext, length-listOf, getD-listOf}
+
+-- the entry (i, j) of the matrix at a
+pub entry-at : (s : List Float) (a rows i j : ℕ) → i < rows → j < rows → getD (part s a (rows * rows)) (i * rows + j) nan ≡ getD s (a + i * rows + j) nan
+entry-at s a rows i j h l =
+    let e : a + (i * rows + j) ≡ a + i * rows + j = omega arith in
+    part-at s a (rows * rows) (i * rows + j) nan (in-rows i j rows rows h l) ∙ ap (λ (w : ℕ). getD s w nan) e
+
+pub set-entry : (s : List Float) (a rows i j : ℕ) (v : Float) → i < rows → j < rows → part (set s (a + i * rows + j) v) a (rows * rows) ≡ set (part s a (rows * rows)) (i * rows + j) v
+set-entry s a rows i j v h l =
+    let e : a + i * rows + j ≡ a + (i * rows + j) = omega arith in
+    ap (λ (w : ℕ). part (set s w v) a (rows * rows)) e ∙ part-set s a (rows * rows) (i * rows + j) v (in-rows i j rows rows h l)
+
+-- one more double of a copy
+pub copy-step : (o s : List Float) (a b k i : ℕ) → a + k ≤ b → b + k ≤ length o → i < k → Kept o s b (b + k) → part s b i ≡ part o a i
+    → part (set s (b + i) (getD s (a + i) nan)) b (suc i) ≡ part o a (suc i)
+copy-step o s a b k i h l m r e =
+    let v = getD s (a + i) nan in
+    let z = r .size in
+    let h1 : i < length (drop b s) = simp length-drop (omega arith) in
+    let h2 : i < length (drop a o) = simp length-drop (omega arith) in
+    let q : v ≡ getD (drop a o) i nan = kept-at-below o s b (b + k) (a + i) nan (omega arith) r ∙ sym (getD-drop a o i nan) in
+    ap (take (suc i)) (drop-set-add b s i v) ∙ take-suc-set (drop b s) i v h1 ∙ (λ j. e j ++ (q j ∷ [])) ∙ sym (take-suc (drop a o) i nan h2)
+
+-- a row of the slopes times another, in memory that keeps the slopes and the weights
+pub gram-is : (o s : List Float) (n rows w lo hi i k : ℕ) → i < rows → k < rows → rows * n ≤ lo → hi ≤ w → Kept o s lo hi
+    → gramAt s (i * n) (k * n) w n ≡ gram (part o 0 (rows * n)) (part o w n) n i k
+unfolding gramAt gram
+gram-is o s n rows w lo hi i k h l below above r = sum-same zero64 _ _ n same
+  where
+    slope-at : (i c : ℕ) → i < rows → c < n → getD s (i * n + c) nan ≡ getD (part o 0 (rows * n)) (i * n + c) nan
+    slope-at i c h m =
+        let in-place = in-rows i c n rows h m in
+        kept-at-below o s lo hi (i * n + c) nan (omega arith) r ∙ sym (part-at o 0 (rows * n) (i * n + c) nan in-place ∙ ap (λ (x : ℕ). getD o x nan) (zero-add (i * n + c)))
+
+    weight-at : (c : ℕ) → c < n → getD s (w + c) nan ≡ getD (part o w n) c nan
+    weight-at c m = kept-at-above o s lo hi (w + c) nan (omega arith) r ∙ sym (part-at o w n c nan m)
+
+    same : (c : ℕ) → c < n
+        → mul binary64 (mul binary64 (getD s (i * n + c) nan) (getD s (k * n + c) nan)) (getD s (w + c) nan)
+        ≡ mul binary64 (mul binary64 (getD (part o 0 (rows * n)) (i * n + c) nan) (getD (part o 0 (rows * n)) (k * n + c) nan)) (getD (part o w n) c nan)
+    same c m = λ j. mul binary64 (mul binary64 (slope-at i c h m j) (slope-at k c l m j)) (weight-at c m j)
+
+-- the matrix is the same on both sides of its diagonal
+pub normal-turned : (jac winv : List Float) (n i k : ℕ) → normalAt jac winv n k i ≡ normalAt jac winv n i k
+normal-turned jac winv n i k =
+    let a : min k i ≡ min i k = omega arith in
+    let b : max k i ≡ max i k = omega arith in
+    λ j. gram jac winv n (a j) (b j)
+
+pub normal-right : (jac winv : List Float) (n i k : ℕ) → i ≤ k → gram jac winv n i k ≡ normalAt jac winv n i k
+normal-right jac winv n i k h =
+    let a : i ≡ min i k = omega arith in
+    let b : k ≡ max i k = omega arith in
+    λ j. gram jac winv n (a j) (b j)
+
+-- left of the diagonal a row stands behind the entry that it copies
+pub above-row : (k i rows : ℕ) → k < i → i < rows → k * rows + i < i * rows
+above-row k i rows h l = let m = mul-le-mul-right rows h in let e = suc-mul k rows in omega arith
+
+-- one more entry of a row from `at` on
+pub row-step : (s : List Float) (at k : ℕ) (v : Float) (E : ℕ → Float) → at + k < length s → v ≡ E k → ((j : ℕ) → j < k → getD s (at + j) nan ≡ E j)
+    → (j : ℕ) → j < k + 1 → getD (set s (at + k) v) (at + j) nan ≡ E j
+row-step s at k v E h e r j l =
+    elim (eq-or-lt-of-le (le-of-suc-le-suc (rw add-one at l))) [
+      | inl q ↦ ap (λ (x : ℕ). getD (set s (at + k) v) (at + x) nan) q ∙ getD-set-same s (at + k) v nan h ∙ e ∙ ap E (sym q)
+      | inr m ↦ getD-set-other s (at + k) (at + j) v nan (λ (z : at + j ≡ at + k). omega arith) ∙ r j m
+    ]
+
+-- one more entry of row i of the matrix at a
+pub matrix-step : (o s t : List Float) (i n rows a w k : ℕ) (v : Float) → i < rows → k < rows → a + rows * rows ≤ w → w + n ≤ length o
+    → Kept o s (a + i * rows) (a + i * rows + rows)
+    → ((j : ℕ) → j < k → getD s (a + i * rows + j) nan ≡ normalAt (part o 0 (rows * n)) (part o w n) n i j)
+    → v ≡ normalAt (part o 0 (rows * n)) (part o w n) n i k
+    → t ≡ set s (a + i * rows + k) v
+    → Kept o t (a + i * rows) (a + i * rows + rows) × ((j : ℕ) → j < k + 1 → getD t (a + i * rows + j) nan ≡ normalAt (part o 0 (rows * n)) (part o w n) n i j)
+matrix-step o s t i n rows a w k v h l above fits r e q p =
+    let m = in-rows i k rows rows h l in
+    let z = r .size in
+    subst
+    (λ (u : List Float). Kept o u (a + i * rows) (a + i * rows + rows) × ((j : ℕ) → j < k + 1 → getD u (a + i * rows + j) nan ≡ normalAt (part o 0 (rows * n)) (part o w n) n i j))
+    (sym p) (
+      kept-set o s (a + i * rows) (a + i * rows + rows) (a + i * rows + k) v (omega arith) (omega arith) r,
+      row-step s (a + i * rows) k v (normalAt (part o 0 (rows * n)) (part o w n) n i) (omega arith) q e,
+    )
+
+-- left of the diagonal the entry is the one above it
+pub left-value : (o s : List Float) (i n rows a w k : ℕ) → k < i → i < rows → Kept o s (a + i * rows) (a + i * rows + rows)
+    → getD o (a + k * rows + i) nan ≡ normalAt (part o 0 (rows * n)) (part o w n) n k i
+    → getD s (a + k * rows + i) nan ≡ normalAt (part o 0 (rows * n)) (part o w n) n i k
+left-value o s i n rows a w k h l r e =
+    let m = above-row k i rows h l in
+    kept-at-below o s (a + i * rows) (a + i * rows + rows) (a + k * rows + i) nan (omega arith) r ∙ e ∙ normal-turned (part o 0 (rows * n)) (part o w n) n i k
+
+-- a row of the slopes ends where the slopes do, at the latest
+pub row-fits : (i n rows : ℕ) → i < rows → i * n + n ≤ rows * n
+row-fits i n rows h = let m = mul-le-mul-right n h in let e = suc-mul i n in omega arith
+
+-- the first i rows of the matrix at a are those of the slopes and weights that o has
+abbrev pub Entries : List Float → List Float → ℕ → ℕ → ℕ → ℕ → ℕ → Type 0
+Entries o s i n rows a w = (p k : ℕ) → p < i → k < rows → getD s (a + p * rows + k) nan ≡ normalAt (part o 0 (rows * n)) (part o w n) n p k
+
+-- the slopes and the weights are kept while the matrix is formed
+pub same-normal : (o s : List Float) (n rows a w p k : ℕ) → rows * n ≤ a → a + rows * rows ≤ w → Kept o s a (a + rows * rows)
+    → normalAt (part s 0 (rows * n)) (part s w n) n p k ≡ normalAt (part o 0 (rows * n)) (part o w n) n p k
+same-normal o s n rows a w p k h l r =
+    let e = kept-part-below o s a (a + rows * rows) 0 (rows * n) (omega arith) r in
+    let g = kept-part-above o s a (a + rows * rows) w n l r in
+    λ j. normalAt (e j) (g j) n p k
+
+pub rows-step : (o s t : List Float) (i n rows a w : ℕ) → i < rows → rows * n ≤ a → a + rows * rows ≤ w → Kept o s a (a + rows * rows) → Entries o s i n rows a w
+    → MatrixRow s t i n rows a w → Kept o t a (a + rows * rows) × Entries o t (i + 1) n rows a w
+rows-step o s t i n rows a w h l m r e q =
+    let f = row-fits i rows rows h in
+    (kept-trans o s t a (a + rows * rows) r (kept-wider s t (a + i * rows) (a + i * rows + rows) a (a + rows * rows) (omega arith) (omega arith) (q .kept)), more)
+  where
+    more : Entries o t (i + 1) n rows a w
+    more p k b d =
+        elim (eq-or-lt-of-le (le-of-suc-le-suc (rw add-one at b))) [
+          | inl z ↦
+              ap (λ (x : ℕ). getD t (a + x * rows + k) nan) z ∙ q .entries k d ∙ same-normal o s n rows a w i k l m r
+              ∙ ap (λ (x : ℕ). normalAt (part o 0 (rows * n)) (part o w n) n x k) (sym z)
+          | inr z ↦
+              let g = row-fits p rows i z in
+              kept-at-below s t (a + i * rows) (a + i * rows + rows) (a + p * rows + k) nan (omega arith) (q .kept) ∙ e p k z d
+        ]
+
+-- all rows are the matrix
+pub rows-all : (o s : List Float) (n rows a w : ℕ) → a + rows * rows ≤ length s → Entries o s rows n rows a w → part s a (rows * rows) ≡ normal (part o 0 (rows * n)) (part o w n) n rows
+unfolding normal
+rows-all o s n rows a w h e = table-ext (normalAt (part o 0 (rows * n)) (part o w n) n) rows rows (part s a (rows * rows)) (part-length s a (rows * rows) h)
+    (λ i k l m. entry-at s a rows i k l m ∙ e i k l m)
+
+-- a column of the slopes times y, in memory
+abbrev pub columnTerm : List Float → ℕ → ℕ → ℕ → ℕ → Float
+columnTerm s n y c i = mul binary64 (getD s (i * n + c) nan) (getD s (y + i) nan)
+
+pub stepped-is : (s : List Float) (n rows x w y c : ℕ) → c < n → x + n ≤ length s
+    → sub binary64 (getD s (x + c) nan) (mul binary64 (getD s (w + c) nan) (sumFrom zero64 (columnTerm s n y c) rows))
+    ≡ steppedAt (part s x n) (part s 0 (rows * n)) (part s w n) (part s y rows) rows c
+unfolding steppedAt
+stepped-is s n rows x w y c h l =
+    let e : length (part s x n) ≡ n = part-length s x n l in
+    λ j.
+    sub binary64 (sym (part-at s x n c nan h) j)
+    (mul binary64 (sym (part-at s w n c nan h) j) (sum-same zero64 (columnTerm s n y c) (λ i. mul binary64 (getD (part s 0 (rows * n)) (i * length (part s x n) + c) nan) (getD (part s y rows) i nan)) rows (same e) j))
+  where
+    same : length (part s x n) ≡ n → (i : ℕ) → i < rows
+        → columnTerm s n y c i ≡ mul binary64 (getD (part s 0 (rows * n)) (i * length (part s x n) + c) nan) (getD (part s y rows) i nan)
+    same e i m =
+        let q : getD (part s 0 (rows * n)) (i * length (part s x n) + c) nan ≡ getD s (i * n + c) nan =
+        ap (λ (z : ℕ). getD (part s 0 (rows * n)) (i * z + c) nan) e ∙ part-at s 0 (rows * n) (i * n + c) nan (in-rows i c n rows m h) ∙ ap (λ (z : ℕ). getD s z nan) (zero-add (i * n + c)) in
+        λ j. mul binary64 (sym q j) (sym (part-at s y rows i nan m) j)
+
+-- one more unknown of the step
+pub step-step : (o s t : List Float) (n rows x w y z c : ℕ) (v : Float) → c < n → rows * n ≤ z → x + n ≤ z → w + n ≤ z → y + rows ≤ z → z + n ≤ length o
+    → Kept o s z (z + n)
+    → ((j : ℕ) → j < c → getD s (z + j) nan ≡ steppedAt (part o x n) (part o 0 (rows * n)) (part o w n) (part o y rows) rows j)
+    → v ≡ steppedAt (part s x n) (part s 0 (rows * n)) (part s w n) (part s y rows) rows c
+    → t ≡ set s (z + c) v
+    → Kept o t z (z + n) × ((j : ℕ) → j < c + 1 → getD t (z + j) nan ≡ steppedAt (part o x n) (part o 0 (rows * n)) (part o w n) (part o y rows) rows j)
+step-step o s t n rows x w y z c v h a b d f g r e q p =
+    let E = steppedAt (part o x n) (part o 0 (rows * n)) (part o w n) (part o y rows) rows in
+    let k0 = kept-part-below o s z (z + n) x n b r in
+    let k1 = kept-part-below o s z (z + n) 0 (rows * n) (omega arith) r in
+    let k2 = kept-part-below o s z (z + n) w n d r in
+    let k3 = kept-part-below o s z (z + n) y rows f r in
+    let u = r .size in
+    subst (λ (l : List Float). Kept o l z (z + n) × ((j : ℕ) → j < c + 1 → getD l (z + j) nan ≡ E j)) (sym p)
+    (kept-set o s z (z + n) (z + c) v (omega arith) (omega arith) r, row-step s z c v E (omega arith) (q ∙ (λ j. steppedAt (k0 j) (k1 j) (k2 j) (k3 j) rows c)) e)
+
+-- a part of as many entries as a list has, equal entry by entry, is the list
+pub list-ext : (f : ℕ → Float) (n : ℕ) (l : List Float) → length l ≡ n → ((i : ℕ) → i < n → getD l i nan ≡ f i) → l ≡ listOf f n
+list-ext f n l e h =
+    ext-getD nan l (listOf f n) (e ∙ sym (length-listOf f n)) (λ i m. h i (rw (← e) m) ∙ sym (getD-listOf f n i nan (rw (← e) m)))
+
+-- all unknowns are the step
+pub step-all : (o s : List Float) (n rows x w y z : ℕ) → x + n ≤ length o → z + n ≤ length s
+    → ((j : ℕ) → j < n → getD s (z + j) nan ≡ steppedAt (part o x n) (part o 0 (rows * n)) (part o w n) (part o y rows) rows j)
+    → part s z n ≡ stepped (part o x n) (part o 0 (rows * n)) (part o w n) (part o y rows) rows
+unfolding stepped
+step-all o s n rows x w y z h l e =
+    list-ext E n (part s z n) (part-length s z n l) (λ i m. part-at s z n i nan m ∙ e i m) ∙ ap (listOf E) (sym (part-length o x n h))
+  where
+    E : ℕ → Float
+    E = steppedAt (part o x n) (part o 0 (rows * n)) (part o w n) (part o y rows) rows

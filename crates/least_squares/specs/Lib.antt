@@ -1,0 +1,4 @@
+pub mod Lm
+pub mod Memory
+pub mod LmPosts
+pub mod Dense

@@ -1,0 +1,3 @@
+// The parts of lm.rs over lent memory: largest magnitude, sums, the matrix J W⁻¹ Jᵀ, damping, elimination and the step.
+pub mod dense;
+pub mod lm;

@@ -1,0 +1,157 @@
+// lm.rs: sums, slopes' matrix, damping and the step, over parts of the lent scratch. `specs/Lm.antt` has the definitions.
+
+ghost use mathlib.Core.Path.{_≡_};
+ghost use Prim.Native.Nat.{ℕ, _+_, _*_, _-_, _≤_, _<_};
+ghost use lib.ListN.{length, getD, set};
+ghost use Rattle.numbers.specs.MaxAbs as largest;
+ghost use Rattle.least_squares.specs.Memory.{part, Kept};
+ghost use lib.Ieee.{nan};
+ghost use Rattle.least_squares.specs.Lm as spec;
+ghost use Rattle.least_squares.specs.LmPosts.{MatrixRow, Matrix, Copied, Damped, Stepped};
+
+// From m on: infinity for a row that is not finite, else the larger of m and its magnitude.
+pub fn max_abs_step(m: f64, a: f64) -> f64
+    ensures { λ r. ⌜ r ≡ largest.maxAbsStep m a ⌝ }
+{
+    if numbers::is_finite(a) {
+        numbers::max(m, numbers::abs(a))
+    } else {
+        1.0 / 0.0
+    }
+}
+
+// The largest magnitude; infinity where an entry is not finite, 0 for none.
+pub fn max_abs(v: &[f64]) -> f64
+    ensures { λ r. ⌜ r ≡ largest.maxAbs (now (v .entry)) ⌝ }
+{
+    let mut m = 0.0;
+    for i in 0..v.len() {
+        m = max_abs_step(m, v[i]);
+    }
+    m
+}
+
+// The sum of the squares, from -0.
+pub fn norm2(v: &[f64]) -> f64
+    ensures { λ r. ⌜ r ≡ spec.norm2 (now (v .entry)) ⌝ }
+{
+    let mut t = -0.0;
+    for i in 0..v.len() {
+        t = t + v[i] * v[i];
+    }
+    t
+}
+
+// The n products of the doubles from i on, those from k on and those from w on, summed from +0.
+fn gram(s: &[f64], i: usize, k: usize, w: usize, n: usize) -> f64
+    requires { ⌜ i + n ≤ length (now s) ⌝ }
+    requires { ⌜ k + n ≤ length (now s) ⌝ }
+    requires { ⌜ w + n ≤ length (now s) ⌝ }
+    ensures { λ r. ⌜ r ≡ spec.gramAt (now (s .entry)) i k w n ⌝ }
+{
+    let mut t = 0.0;
+    for c in 0..n {
+        t = t + s[i + c] * s[k + c] * s[w + c];
+    }
+    t
+}
+
+// Row i of J W⁻¹ Jᵀ, the slopes at 0, the matrix at a, the weights at w. What stands left of the diagonal is copied from above it.
+fn matrix_row(s: &mut [f64], i: usize, n: usize, rows: usize, a: usize, w: usize)
+    requires { ⌜ i < rows ⌝ }
+    requires { ⌜ (rows ≤ 800) × (n ≤ 384) ⌝ }
+    requires { ⌜ rows * n ≤ a ⌝ }
+    requires { ⌜ a + rows * rows ≤ w ⌝ }
+    requires { ⌜ w + n ≤ length (now s) ⌝ }
+    requires { ⌜ ((k : ℕ) → k < i → getD (now s) (a + k * rows + i) nan ≡ spec.normalAt (part (now s) 0 (rows * n)) (part (now s) w n) n k i) ⌝ }
+    ensures { λ _. ⌜ MatrixRow (now (s .entry)) (now (s .exit)) i n rows a w ⌝ }
+{
+    let at = a + i * rows;
+    let row = i * n;
+    for k in 0..rows {
+        if k < i {
+            s[at + k] = s[a + k * rows + i];
+        } else {
+            s[at + k] = gram(s, row, k * n, w, n);
+        }
+    }
+}
+
+// J W⁻¹ Jᵀ.
+pub fn matrix(s: &mut [f64], n: usize, rows: usize, a: usize, w: usize)
+    requires { ⌜ (rows ≤ 800) × (n ≤ 384) ⌝ }
+    requires { ⌜ rows * n ≤ a ⌝ }
+    requires { ⌜ a + rows * rows ≤ w ⌝ }
+    requires { ⌜ w + n ≤ length (now s) ⌝ }
+    ensures { λ _. ⌜ Matrix (now (s .entry)) (now (s .exit)) n rows a w ⌝ }
+{
+    for i in 0..rows {
+        matrix_row(s, i, n, rows, a, w);
+    }
+}
+
+// The largest entry of the diagonal of the matrix from a on, at least 1e-12.
+pub fn diag_max(s: &[f64], a: usize, rows: usize) -> f64
+    requires { ⌜ rows ≤ 800 ⌝ }
+    requires { ⌜ a + rows * rows ≤ length (now s) ⌝ }
+    ensures { λ r. ⌜ r ≡ spec.diagMax (part (now (s .entry)) a (rows * rows)) rows ⌝ }
+{
+    let mut m = 0.0;
+    for i in 0..rows {
+        m = numbers::max(m, s[a + i * rows + i]);
+    }
+    numbers::max(m, 1e-12)
+}
+
+// The k doubles from a on copied to b on, which stands behind them.
+pub fn copy(s: &mut [f64], a: usize, b: usize, k: usize)
+    requires { ⌜ a + k ≤ b ⌝ }
+    requires { ⌜ b + k ≤ length (now s) ⌝ }
+    ensures { λ _. ⌜ Copied (now (s .entry)) (now (s .exit)) a b k ⌝ }
+{
+    for i in 0..k {
+        s[b + i] = s[a + i];
+    }
+}
+
+// d added to the diagonal of the matrix from a on.
+pub fn damp(s: &mut [f64], a: usize, rows: usize, d: f64)
+    requires { ⌜ rows ≤ 800 ⌝ }
+    requires { ⌜ a + rows * rows ≤ length (now s) ⌝ }
+    ensures { λ _. ⌜ Damped (now (s .entry)) (now (s .exit)) a rows d ⌝ }
+{
+    for i in 0..rows {
+        s[a + i * rows + i] = s[a + i * rows + i] + d;
+    }
+}
+
+// The unknown c after the step: x less its inverse weight times column c of the slopes at 0 times y.
+fn stepped_at(s: &[f64], n: usize, rows: usize, x: usize, w: usize, y: usize, c: usize) -> f64
+    requires { ⌜ (rows ≤ 800) × (n ≤ 384) ⌝ }
+    requires { ⌜ c < n ⌝ }
+    requires { ⌜ rows * n ≤ length (now s) ⌝ }
+    requires { ⌜ (x + n ≤ length (now s)) × (w + n ≤ length (now s)) ⌝ }
+    requires { ⌜ y + rows ≤ length (now s) ⌝ }
+    ensures { λ r. ⌜ r ≡ spec.steppedAt (part (now (s .entry)) x n) (part (now (s .entry)) 0 (rows * n)) (part (now (s .entry)) w n) (part (now (s .entry)) y rows) rows c ⌝ }
+{
+    let mut t = 0.0;
+    for i in 0..rows {
+        t = t + s[i * n + c] * s[y + i];
+    }
+    s[x + c] - s[w + c] * t
+}
+
+// The unknowns after the step, at z, which stands behind all that they are made of.
+pub fn step(s: &mut [f64], n: usize, rows: usize, x: usize, w: usize, y: usize, z: usize)
+    requires { ⌜ (rows ≤ 800) × (n ≤ 384) ⌝ }
+    requires { ⌜ rows * n ≤ z ⌝ }
+    requires { ⌜ (x + n ≤ z) × (w + n ≤ z) ⌝ }
+    requires { ⌜ y + rows ≤ z ⌝ }
+    requires { ⌜ z + n ≤ length (now s) ⌝ }
+    ensures { λ _. ⌜ Stepped (now (s .entry)) (now (s .exit)) n rows x w y z ⌝ }
+{
+    for c in 0..n {
+        let v = stepped_at(s, n, rows, x, w, y, c);
+        s[z + c] = v;
+    }
+}

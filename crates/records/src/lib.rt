@@ -1,0 +1,2 @@
+// Bodies and relations read in place from a sheet's bytes.
+pub mod record;

@@ -1,0 +1,16 @@
+-- `relations::model::Pose::place` meets its contract. Assumes nothing.
+use Rattle.relations.proofs.Values.{vec-is}
+use Rattle.relations.proofs.model.Pose.place.Statement.{statement}
+use Rattle.relations.proofs.model.Pose.place.Tie as tie
+
+apply-requires : tie.Need-apply-requires
+apply-requires c κs = tt
+
+add-requires : tie.Need-add-requires
+add-requires c κs = tt
+
+returns : tie.Need-returns
+returns c = rw (vec-is (c .add .ensures), vec-is (c .before .apply .ensures))
+
+pub place-spec : {M : Type 1} → statement M
+place-spec = tie.close (tie.spec apply-requires add-requires returns)

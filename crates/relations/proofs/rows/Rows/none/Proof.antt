@@ -1,0 +1,12 @@
+-- `relations::rows::Rows::none` meets its contract. Assumes nothing.
+use mathlib.Core.Path.{refl}
+use Rattle.relations.specs.Rows.{pack}
+use Rattle.relations.proofs.rows.Rows.none.Statement.{statement}
+use Rattle.relations.proofs.rows.Rows.none.Tie as tie
+
+returns : tie.Need-returns
+unfolding pack
+returns c = refl
+
+pub none-spec : {M : Type 1} → statement M
+none-spec = tie.close (tie.spec returns)

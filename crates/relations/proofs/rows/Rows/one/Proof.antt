@@ -1,0 +1,12 @@
+-- `relations::rows::Rows::one` meets its contract. Assumes nothing.
+use mathlib.Core.Path.{refl}
+use Rattle.relations.specs.Rows.{pack}
+use Rattle.relations.proofs.rows.Rows.one.Statement.{statement}
+use Rattle.relations.proofs.rows.Rows.one.Tie as tie
+
+returns : tie.Need-returns
+unfolding pack
+returns c = refl
+
+pub one-spec : {M : Type 1} → statement M
+one-spec = tie.close (tie.spec returns)

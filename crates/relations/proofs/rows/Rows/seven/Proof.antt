@@ -1,0 +1,12 @@
+-- `relations::rows::Rows::seven` meets its contract. Assumes nothing.
+use mathlib.Core.Path.{refl}
+use Rattle.relations.specs.Rows.{pack}
+use Rattle.relations.proofs.rows.Rows.seven.Statement.{statement}
+use Rattle.relations.proofs.rows.Rows.seven.Tie as tie
+
+returns : tie.Need-returns
+unfolding pack
+returns c = refl
+
+pub seven-spec : {M : Type 1} → statement M
+seven-spec = tie.close (tie.spec returns)

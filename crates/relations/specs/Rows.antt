@@ -1,0 +1,278 @@
+-- The rows of every law and pair: `residual` of solve.rs, with `tangent_gap`, `perp`, `wrap`, `turn`, `mate_prim` and `joint_frame`. Document 01, "The train of
+-- files", item 6, and "The words of demand 3". What rows of mate, flush, insert, symmetry and a tangent with a plane are made of is written once over the record
+-- of operations, for doubles and for fractions. Definitions only.
+use Prim.Native.Nat.{ℕ}
+use mathlib.Core.Bool.{Bool, true, false, _||_, cond}
+use mathlib.Core.List.{List, [], _∷_}
+use mathlib.Core.Option.{Option, none, some}
+use lib.Dec.{ltb}
+use lib.ListN.{length, take, getD}
+use lib.Ieee.{Float, binary64, add, sub, mul, neg, le, ofBits}
+use Rattle.numbers.specs.Ops.{Ops, doubles}
+use Rattle.numbers.specs.Double.{zero64, one64, abs, remEuclid}
+use Rattle.numbers.specs.MaxAbs.{maxAbsStep}
+use Rattle.arcs.specs.Arcs.{arctangent}
+use Rattle.vectors.specs.Vec.{Vec, vec, zeroV, addV, subV, scaleV, dot, cross, len}
+use Rattle.vectors.specs.Space.{Frame}
+use Rattle.vectors.specs.Math.{Mat, apply, identity, PI}
+use Rattle.relations.specs.Geometry.{Geo, plane, line, point, circle, Pose, vecOf, poseOf, place, placed, directionOf, jointFrame}
+use Rattle.relations.specs.Model.{End, Law, mate, flush, angle, insert, tangent, symmetry, joint, Rel}
+use Rattle.relations.specs.declared.rows.Rows.{Rows}
+use Rattle.relations.specs.declared.rows.JointAt.{JointAt as JointStruct}
+use Rattle.relations.specs.declared.model.JointKind.{JointKind}
+use Rattle.relations.specs.declared.model.JointKind.the-variants.{Rigid, Revolute, Slider, Cylindrical, Planar, Ball}
+
+-- ---- rows as the code hands them on
+
+-- the first n of seven
+unfoldable pub rowsOf : Rows → List Float
+rowsOf r = take (r .n) (r .r0 ∷ r .r1 ∷ r .r2 ∷ r .r3 ∷ r .r4 ∷ r .r5 ∷ r .r6 ∷ [])
+
+-- at most seven rows, +0 after them
+unfoldable pub pack : List Float → Rows
+pack l =
+    record {
+      n = length l;
+      r0 = getD l 0 zero64;
+      r1 = getD l 1 zero64;
+      r2 = getD l 2 zero64;
+      r3 = getD l 3 zero64;
+      r4 = getD l 4 zero64;
+      r5 = getD l 5 zero64;
+      r6 = getD l 6 zero64;
+    }
+
+-- `maxAbsStep` for row k of n; m where there is no such row
+unfoldable pub stepBelow : ℕ → ℕ → Float → Float → Float
+stepBelow n k m a = cond (ltb k n) (maxAbsStep m a) m
+
+-- ---- what rows are made of
+
+-- 2.0
+abbrev pub two64 : Float
+two64 = ofBits binary64 0x4000_0000_0000_0000
+
+-- a circle's axis is what a mate works with
+unfoldable pub matePrim : {C : Type 0} → Geo C → Geo C
+matePrim (plane p n) = plane p n
+matePrim (line p d) = line p d
+matePrim (point p) = point p
+matePrim (circle c n r) = line c n
+
+abbrev pub push3 : {C : Type 0} → Vec C → List C → List C
+push3 v l = v .x ∷ v .y ∷ v .z ∷ l
+
+module _ {C : Type 0} (o : Ops C) where
+  -- the part of v that is perpendicular to d
+  abbrev pub perp : Vec C → Vec C → Vec C
+  perp v d = subV o v (scaleV o d (dot o v d))
+
+  -- how far q stands from the plane through p with the normal n, less what is wanted
+  abbrev pub gap : Vec C → Vec C → Vec C → C → C
+  gap q p n want = o .sub (dot o (subV o q p) n) want
+
+  unfoldable pub mateRows : C → Geo C → Geo C → List C
+  mateRows off (plane a na) (plane b nb) = push3 (addV o na nb) (gap b a na off ∷ [])
+  mateRows off (plane p n) (line q d) = dot o d n ∷ gap q p n off ∷ []
+  mateRows off (plane p n) (point q) = gap q p n off ∷ []
+  mateRows off (plane p n) (circle c m r) = []
+  mateRows off (line q d) (plane p n) = dot o d n ∷ gap q p n off ∷ []
+  mateRows off (line a da) (line b db) = push3 (cross o da db) (push3 (perp (subV o b a) da) [])
+  mateRows off (line p d) (point q) = push3 (perp (subV o q p) d) []
+  mateRows off (line p d) (circle c m r) = []
+  mateRows off (point q) (plane p n) = gap q p n off ∷ []
+  mateRows off (point q) (line p d) = push3 (perp (subV o q p) d) []
+  mateRows off (point a) (point b) = push3 (subV o b a) []
+  mateRows off (point q) (circle c m r) = []
+  mateRows off (circle c m r) b = []
+
+  unfoldable pub flushRows : C → Geo C → Geo C → List C
+  flushRows off (plane a na) (plane b nb) = push3 (subV o na nb) (gap b a na off ∷ [])
+  flushRows off (plane a na) (line q d) = []
+  flushRows off (plane a na) (point q) = []
+  flushRows off (plane a na) (circle c n r) = []
+  flushRows off (line q d) b = []
+  flushRows off (point q) b = []
+  flushRows off (circle c n r) b = []
+
+  unfoldable pub insertRows : C → Bool → Geo C → Geo C → List C
+  insertRows off aligned (circle ca na r) (circle cb nb s) =
+      push3 (cond aligned (subV o na nb) (addV o na nb)) (push3 (subV o (subV o cb ca) (scaleV o na off)) [])
+  insertRows off aligned (circle ca na r) (plane p n) = []
+  insertRows off aligned (circle ca na r) (line p n) = []
+  insertRows off aligned (circle ca na r) (point p) = []
+  insertRows off aligned (plane p n) b = []
+  insertRows off aligned (line p n) b = []
+  insertRows off aligned (point p) b = []
+
+  -- `tangent_gap` where an end is a plane: the larger radius, behind the plane when inside
+  unfoldable pub planeGap : C → C → C → Bool → C
+  planeGap ra rb off inside = o .add (cond inside (o .neg (o .max ra rb)) (o .max ra rb)) off
+
+  unfoldable pub planeTangentRows : C → Geo C → Geo C → List C
+  planeTangentRows want (plane p n) (line q d) = dot o d n ∷ gap q p n want ∷ []
+  planeTangentRows want (plane p n) (point c) = gap c p n want ∷ []
+  planeTangentRows want (plane p n) (plane b m) = []
+  planeTangentRows want (plane p n) (circle c m r) = []
+  planeTangentRows want (line q d) (plane p n) = dot o d n ∷ gap q p n want ∷ []
+  planeTangentRows want (line q d) (line p n) = []
+  planeTangentRows want (line q d) (point p) = []
+  planeTangentRows want (line q d) (circle c m r) = []
+  planeTangentRows want (point c) (plane p n) = gap c p n want ∷ []
+  planeTangentRows want (point c) (line p n) = []
+  planeTangentRows want (point c) (point p) = []
+  planeTangentRows want (point c) (circle p m r) = []
+  planeTangentRows want (circle c m r) b = []
+
+  -- a direction, and a point, mirrored in the plane through s0 with the normal ns
+  abbrev pub mirrorTurn : Vec C → Vec C → Vec C
+  mirrorTurn ns v = subV o v (scaleV o ns (o .mul (o .of two64) (dot o v ns)))
+
+  abbrev pub mirrorPlace : Vec C → Vec C → Vec C → Vec C
+  mirrorPlace s0 ns p = subV o p (scaleV o ns (o .mul (o .of two64) (dot o (subV o p s0) ns)))
+
+  unfoldable pub mirrorRows : Vec C → Vec C → Geo C → Geo C → List C
+  mirrorRows s0 ns (plane a na) (plane b nb) = push3 (subV o nb (mirrorTurn ns na)) (dot o (subV o b (mirrorPlace s0 ns a)) nb ∷ [])
+  mirrorRows s0 ns (plane a na) (line b db) = []
+  mirrorRows s0 ns (plane a na) (point b) = []
+  mirrorRows s0 ns (plane a na) (circle b n r) = []
+  mirrorRows s0 ns (line a da) (line b db) = push3 (cross o db (mirrorTurn ns da)) (push3 (perp (subV o b (mirrorPlace s0 ns a)) db) [])
+  mirrorRows s0 ns (line a da) (plane b db) = []
+  mirrorRows s0 ns (line a da) (point b) = []
+  mirrorRows s0 ns (line a da) (circle b n r) = []
+  mirrorRows s0 ns (point a) (point b) = push3 (subV o b (mirrorPlace s0 ns a)) []
+  mirrorRows s0 ns (point a) (plane b n) = []
+  mirrorRows s0 ns (point a) (line b n) = []
+  mirrorRows s0 ns (point a) (circle b n r) = []
+  mirrorRows s0 ns (circle a n r) b = []
+
+  unfoldable pub symmetryRows : Geo C → Geo C → Geo C → List C
+  unfolding mirrorRows
+  symmetryRows (plane s0 ns) a b = mirrorRows s0 ns a b
+  symmetryRows (line p d) a b = []
+  symmetryRows (point p) a b = []
+  symmetryRows (circle c n r) a b = []
+
+  -- The rows of mate, flush, insert, symmetry and a tangent with a plane, ends a and b at the poses qa and qb, symmetry's plane at qs. The other laws have none
+  -- here.
+  unfoldable pub formulaRows : Law → End → End → Pose Float → Pose Float → Pose Float → List C
+  unfolding placed matePrim mateRows flushRows insertRows planeGap planeTangentRows symmetryRows
+  formulaRows (mate off) a b qa qb qs =
+      mateRows (o .of off) (matePrim (placed o (poseOf o qa) (a .prim))) (matePrim (placed o (poseOf o qb) (b .prim)))
+  formulaRows (flush off) a b qa qb qs = flushRows (o .of off) (placed o (poseOf o qa) (a .prim)) (placed o (poseOf o qb) (b .prim))
+  formulaRows (angle want reference) a b qa qb qs = []
+  formulaRows (insert off aligned) a b qa qb qs =
+      insertRows (o .of off) aligned (placed o (poseOf o qa) (a .prim)) (placed o (poseOf o qb) (b .prim))
+  formulaRows (tangent off inside) a b qa qb qs =
+      planeTangentRows (planeGap (o .of (a .radius)) (o .of (b .radius)) (o .of off) inside) (placed o (poseOf o qa) (a .prim)) (placed o (poseOf o qb) (b .prim))
+  formulaRows (symmetry p) a b qa qb qs =
+      symmetryRows (placed o (poseOf o qs) (p .prim)) (matePrim (placed o (poseOf o qa) (a .prim))) (matePrim (placed o (poseOf o qb) (b .prim)))
+  formulaRows (joint kind flip off want) a b qa qb qs = []
+
+-- ---- the rows that doubles alone have
+
+-- a wrapped into (-pi, pi]
+unfoldable pub wrap : Float → Float
+wrap a =
+    let tau = mul binary64 two64 PI in
+    let w = sub binary64 (remEuclid (add binary64 a PI) tau) PI in
+    cond (le w (neg PI)) (add binary64 w tau) w
+
+-- the angle from xa to xb, turning about the axis
+unfoldable pub turn : Vec Float → Vec Float → Vec Float → Float
+turn xa xb axis = arctangent (dot doubles (cross doubles xa xb) axis) (dot doubles xa xb)
+
+-- `tangent_gap` between two round ends
+unfoldable pub roundGap : Float → Float → Float → Bool → Float
+roundGap ra rb off inside = add binary64 (cond inside (abs (sub binary64 ra rb)) (add binary64 ra rb)) off
+
+-- `tangent_gap`: how far apart a tangent wants its ends
+unfoldable pub tangentGap : Float → Float → Float → Bool → Bool → Float
+unfolding planeGap roundGap
+tangentGap ra rb off inside isPlane = cond isPlane (planeGap doubles ra rb off inside) (roundGap ra rb off inside)
+
+unfoldable pub roundTangentRows : Float → Geo Float → Geo Float → List Float
+roundTangentRows want (line a da) (line b db) =
+    push3 (cross doubles da db) (sub binary64 (len (perp doubles (subV doubles b a) da)) want ∷ [])
+roundTangentRows want (line p d) (point c) = sub binary64 (len (perp doubles (subV doubles c p) d)) want ∷ []
+roundTangentRows want (line p d) (plane q n) = []
+roundTangentRows want (line p d) (circle c n r) = []
+roundTangentRows want (point c) (line p d) = sub binary64 (len (perp doubles (subV doubles c p) d)) want ∷ []
+roundTangentRows want (point a) (point b) = sub binary64 (len (subV doubles b a)) want ∷ []
+roundTangentRows want (point c) (plane q n) = []
+roundTangentRows want (point c) (circle b n r) = []
+roundTangentRows want (plane p n) b = []
+roundTangentRows want (circle c n r) b = []
+
+unfoldable pub isPlane : {C : Type 0} → Geo C → Bool
+isPlane (plane p n) = true
+isPlane (line p d) = false
+isPlane (point p) = false
+isPlane (circle c n r) = false
+
+-- a joint's frame in the assembly: origin, X, Z
+pub record JointAt : Type 0 where
+  pub o : Vec Float
+  pub x : Vec Float
+  pub z : Vec Float
+
+abbrev pub jointOf : JointStruct → JointAt
+jointOf j = record { o = vec (j .o); x = vec (j .x); z = vec (j .z) }
+
+unfoldable pub jointAt : End → Pose Float → JointAt
+jointAt e q =
+    let f = jointFrame (e .prim) (e .mirrored) in
+    record { o = place doubles q (f .origin); x = apply doubles (q .r) (f .x); z = apply doubles (q .r) (f .z) }
+
+-- 1 or, not flipped, -1
+abbrev pub facing : Bool → Float
+facing flip = cond flip one64 (ofBits binary64 0xBFF0_0000_0000_0000)
+
+abbrev pub axesApart : Bool → JointAt → JointAt → Vec Float
+axesApart flip a b = subV doubles (b .z) (scaleV doubles (a .z) (facing flip))
+
+-- ob - oa - za * offset
+abbrev pub originsApart : Float → JointAt → JointAt → Vec Float
+originsApart off a b = subV doubles (subV doubles (b .o) (a .o)) (scaleV doubles (a .z) off)
+
+abbrev pub offAxis : JointAt → JointAt → Vec Float
+offAxis a b = perp doubles (subV doubles (b .o) (a .o)) (a .z)
+
+unfoldable pub turnedBy : Float → JointAt → JointAt → Float
+turnedBy want a b = wrap (sub binary64 (turn (a .x) (b .x) (a .z)) want)
+
+unfoldable pub jointRows : JointKind → Bool → Float → Float → JointAt → JointAt → List Float
+unfolding turnedBy
+jointRows Rigid flip off want a b = push3 (axesApart flip a b) (push3 (originsApart off a b) (turnedBy want a b ∷ []))
+jointRows Revolute flip off want a b = push3 (axesApart flip a b) (push3 (originsApart off a b) [])
+jointRows Slider flip off want a b = push3 (axesApart flip a b) (push3 (offAxis a b) (turnedBy want a b ∷ []))
+jointRows Cylindrical flip off want a b = push3 (axesApart flip a b) (push3 (offAxis a b) [])
+jointRows Planar flip off want a b = push3 (axesApart flip a b) (gap doubles (b .o) (a .o) (a .z) off ∷ [])
+jointRows Ball flip off want a b = push3 (subV doubles (b .o) (a .o)) []
+
+-- about the axis r; a point has no direction, and no row
+unfoldable pub angleRows : Float → Vec Float → Option (Vec Float) → Option (Vec Float) → List Float
+angleRows want r (some ua) (some ub) = wrap (sub binary64 (turn ua ub r) want) ∷ []
+angleRows want r (some ua) none = []
+angleRows want r none b = []
+
+-- between placed ends: with a plane, or both round
+unfoldable pub tangentRows : Float → Float → Float → Bool → Geo Float → Geo Float → List Float
+tangentRows ra rb off inside pa pb =
+    cond (isPlane pa || isPlane pb) (planeTangentRows doubles (planeGap doubles ra rb off inside) pa pb) (roundTangentRows (roundGap ra rb off inside) pa pb)
+
+-- `residual`: the rows of a relation, ends a and b at the poses qa and qb, symmetry's plane at qs
+unfoldable pub residual : Law → End → End → Pose Float → Pose Float → Pose Float → List Float
+residual (mate off) a b qa qb qs = formulaRows doubles (mate off) a b qa qb qs
+residual (flush off) a b qa qb qs = formulaRows doubles (flush off) a b qa qb qs
+residual (angle want reference) a b qa qb qs =
+    angleRows want (apply doubles (qa .r) reference) (directionOf (placed doubles qa (a .prim))) (directionOf (placed doubles qb (b .prim)))
+residual (insert off aligned) a b qa qb qs = formulaRows doubles (insert off aligned) a b qa qb qs
+residual (tangent off inside) a b qa qb qs =
+    tangentRows (a .radius) (b .radius) off inside (placed doubles qa (a .prim)) (placed doubles qb (b .prim))
+residual (symmetry p) a b qa qb qs = formulaRows doubles (symmetry p) a b qa qb qs
+residual (joint kind flip off want) a b qa qb qs = jointRows kind flip off want (jointAt a qa) (jointAt b qb)
+
+-- the ground's pose
+abbrev pub ground : Pose Float
+ground = record { r = identity; t = zeroV }

@@ -1,0 +1,720 @@
+// The rows of every law and pair: `residual` of solve.rs, with what it is made of. `specs/Rows.antt` has the definitions.
+ghost use mathlib.Core.Path.{_≡_};
+ghost use mathlib.Core.List.{List, [], _∷_};
+ghost use Rattle.numbers.specs.Ops.{doubles};
+ghost use Rattle.numbers.specs.MaxAbs as largest;
+ghost use Rattle.vectors.specs.Vec.{vec};
+ghost use Rattle.relations.specs.Geometry.{prim, direction};
+ghost use Rattle.relations.specs.Model.{endOf, lawOf, pose};
+ghost use Rattle.relations.specs.Rows as spec;
+use crate::geometry::Direction;
+use crate::geometry::Prim;
+use crate::model::End;
+use crate::model::JointKind;
+use crate::model::Law;
+use crate::model::Pose;
+use crate::model::Rel;
+use least_squares::lm::max_abs_step;
+use vectors::vec::Vec3;
+
+const PI: f64 = 3.141592653589793;
+
+const MINUS_ONE: f64 = -1.0;
+
+// The first n of seven numbers; the others are 0.
+pub struct Rows {
+    pub n: usize,
+    pub r0: f64,
+    pub r1: f64,
+    pub r2: f64,
+    pub r3: f64,
+    pub r4: f64,
+    pub r5: f64,
+    pub r6: f64,
+}
+
+impl Rows {
+    fn none() -> Rows
+        ensures { λ r. ⌜ r ≡ spec.pack [] ⌝ }
+    {
+        Rows {
+            n: 0,
+            r0: 0.0,
+            r1: 0.0,
+            r2: 0.0,
+            r3: 0.0,
+            r4: 0.0,
+            r5: 0.0,
+            r6: 0.0,
+        }
+    }
+
+    fn one(x: f64) -> Rows
+        ensures { λ r. ⌜ r ≡ spec.pack (x ∷ []) ⌝ }
+    {
+        Rows {
+            n: 1,
+            r0: x,
+            r1: 0.0,
+            r2: 0.0,
+            r3: 0.0,
+            r4: 0.0,
+            r5: 0.0,
+            r6: 0.0,
+        }
+    }
+
+    fn two(x: f64, y: f64) -> Rows
+        ensures { λ r. ⌜ r ≡ spec.pack (x ∷ y ∷ []) ⌝ }
+    {
+        Rows {
+            n: 2,
+            r0: x,
+            r1: y,
+            r2: 0.0,
+            r3: 0.0,
+            r4: 0.0,
+            r5: 0.0,
+            r6: 0.0,
+        }
+    }
+
+    fn three(v: Vec3) -> Rows
+        ensures { λ r. ⌜ r ≡ spec.pack (spec.push3 (vec v) []) ⌝ }
+    {
+        Rows {
+            n: 3,
+            r0: v.x,
+            r1: v.y,
+            r2: v.z,
+            r3: 0.0,
+            r4: 0.0,
+            r5: 0.0,
+            r6: 0.0,
+        }
+    }
+
+    fn four(v: Vec3, x: f64) -> Rows
+        ensures { λ r. ⌜ r ≡ spec.pack (spec.push3 (vec v) (x ∷ [])) ⌝ }
+    {
+        Rows {
+            n: 4,
+            r0: v.x,
+            r1: v.y,
+            r2: v.z,
+            r3: x,
+            r4: 0.0,
+            r5: 0.0,
+            r6: 0.0,
+        }
+    }
+
+    fn six(v: Vec3, w: Vec3) -> Rows
+        ensures { λ r. ⌜ r ≡ spec.pack (spec.push3 (vec v) (spec.push3 (vec w) [])) ⌝ }
+    {
+        Rows {
+            n: 6,
+            r0: v.x,
+            r1: v.y,
+            r2: v.z,
+            r3: w.x,
+            r4: w.y,
+            r5: w.z,
+            r6: 0.0,
+        }
+    }
+
+    fn seven(v: Vec3, w: Vec3, x: f64) -> Rows
+        ensures { λ r. ⌜ r ≡ spec.pack (spec.push3 (vec v) (spec.push3 (vec w) (x ∷ []))) ⌝ }
+    {
+        Rows {
+            n: 7,
+            r0: v.x,
+            r1: v.y,
+            r2: v.z,
+            r3: w.x,
+            r4: w.y,
+            r5: w.z,
+            r6: x,
+        }
+    }
+
+    // The largest magnitude, 0 for none; infinity where a row is not finite.
+    pub fn max_abs(self) -> f64
+        ensures { λ r. ⌜ r ≡ largest.maxAbs (spec.rowsOf self) ⌝ }
+    {
+        let n = self.n;
+        let m0 = max_abs_below(n, 0, 0.0, self.r0);
+        let m1 = max_abs_below(n, 1, m0, self.r1);
+        let m2 = max_abs_below(n, 2, m1, self.r2);
+        let m3 = max_abs_below(n, 3, m2, self.r3);
+        let m4 = max_abs_below(n, 4, m3, self.r4);
+        let m5 = max_abs_below(n, 5, m4, self.r5);
+        max_abs_below(n, 6, m5, self.r6)
+    }
+}
+
+// The largest magnitude so far, with row k of n; m where there is no such row.
+fn max_abs_below(n: usize, k: usize, m: f64, a: f64) -> f64
+    ensures { λ r. ⌜ r ≡ spec.stepBelow n k m a ⌝ }
+{
+    if k < n { max_abs_step(m, a) } else { m }
+}
+
+// `tangent_gap` where an end is a plane: in front of it, or behind it when `inside`.
+pub fn plane_gap(ra: f64, rb: f64, offset: f64, inside: bool) -> f64
+    ensures { λ r. ⌜ r ≡ spec.planeGap doubles ra rb offset inside ⌝ }
+{
+    let r = numbers::max(ra, rb);
+    if inside { -r + offset } else { r + offset }
+}
+
+// `tangent_gap` between two round ends: their radii added, or one less the other when `inside`.
+fn round_gap(ra: f64, rb: f64, offset: f64, inside: bool) -> f64
+    ensures { λ r. ⌜ r ≡ spec.roundGap ra rb offset inside ⌝ }
+{
+    if inside {
+        numbers::abs(ra - rb) + offset
+    } else {
+        ra + rb + offset
+    }
+}
+
+// How far a tangent wants its two ends apart.
+pub fn tangent_gap(ra: f64, rb: f64, offset: f64, inside: bool, plane: bool) -> f64
+    ensures { λ r. ⌜ r ≡ spec.tangentGap ra rb offset inside plane ⌝ }
+{
+    if plane {
+        plane_gap(ra, rb, offset, inside)
+    } else {
+        round_gap(ra, rb, offset, inside)
+    }
+}
+
+// The part of v that is perpendicular to d.
+pub fn perp(v: Vec3, d: Vec3) -> Vec3
+    ensures { λ r. ⌜ vec r ≡ spec.perp doubles (vec v) (vec d) ⌝ }
+{
+    v.sub(d.scale(v.dot(d)))
+}
+
+// How far q stands from the plane through p with the normal n, less what is wanted.
+fn gap(q: Vec3, p: Vec3, n: Vec3, want: f64) -> f64
+    ensures { λ r. ⌜ r ≡ spec.gap doubles (vec q) (vec p) (vec n) want ⌝ }
+{
+    q.sub(p).dot(n) - want
+}
+
+// `a` wrapped into (-pi, pi].
+pub fn wrap(a: f64) -> f64
+    ensures { λ r. ⌜ r ≡ spec.wrap a ⌝ }
+{
+    let w = numbers::rem_euclid(a + PI, 2.0 * PI) - PI;
+    if w <= -PI { w + 2.0 * PI } else { w }
+}
+
+// The angle from xa to xb turning about the axis.
+pub fn turn(xa: Vec3, xb: Vec3, axis: Vec3) -> f64
+    ensures { λ r. ⌜ r ≡ spec.turn (vec xa) (vec xb) (vec axis) ⌝ }
+{
+    arcs::arc::arctangent(xa.cross(xb).dot(axis), xa.dot(xb))
+}
+
+// A circle's axis is what a mate works with.
+pub fn mate_prim(p: Prim) -> Prim
+    ensures { λ r. ⌜ prim r ≡ spec.matePrim (prim p) ⌝ }
+{
+    match p {
+        Prim::Plane { point, normal } => Prim::Plane { point, normal },
+        Prim::Line { point, dir } => Prim::Line { point, dir },
+        Prim::Point(q) => Prim::Point(q),
+        Prim::Circle {
+            center,
+            normal,
+            radius: _,
+        } => Prim::Line {
+            point: center,
+            dir: normal,
+        },
+    }
+}
+
+pub fn is_plane(p: Prim) -> bool
+    ensures { λ r. ⌜ r ≡ spec.isPlane (prim p) ⌝ }
+{
+    match p {
+        Prim::Plane {
+            point: _,
+            normal: _,
+        } => true,
+        Prim::Line { point: _, dir: _ } => false,
+        Prim::Point(_) => false,
+        Prim::Circle {
+            center: _,
+            normal: _,
+            radius: _,
+        } => false,
+    }
+}
+
+fn mate(offset: f64, a: Prim, b: Prim) -> Rows
+    ensures { λ r. ⌜ r ≡ spec.pack (spec.mateRows doubles offset (prim a) (prim b)) ⌝ }
+{
+    match a {
+        Prim::Plane {
+            point: pa,
+            normal: na,
+        } => match b {
+            Prim::Plane {
+                point: pb,
+                normal: nb,
+            } => Rows::four(na.add(nb), gap(pb, pa, na, offset)),
+            Prim::Line { point: q, dir: d } => Rows::two(d.dot(na), gap(q, pa, na, offset)),
+            Prim::Point(q) => Rows::one(gap(q, pa, na, offset)),
+            Prim::Circle {
+                center: _,
+                normal: _,
+                radius: _,
+            } => Rows::none(),
+        },
+        Prim::Line { point: pa, dir: da } => match b {
+            Prim::Plane {
+                point: p,
+                normal: n,
+            } => Rows::two(da.dot(n), gap(pa, p, n, offset)),
+            Prim::Line { point: pb, dir: db } => Rows::six(da.cross(db), perp(pb.sub(pa), da)),
+            Prim::Point(q) => Rows::three(perp(q.sub(pa), da)),
+            Prim::Circle {
+                center: _,
+                normal: _,
+                radius: _,
+            } => Rows::none(),
+        },
+        Prim::Point(q) => match b {
+            Prim::Plane {
+                point: p,
+                normal: n,
+            } => Rows::one(gap(q, p, n, offset)),
+            Prim::Line { point: p, dir: d } => Rows::three(perp(q.sub(p), d)),
+            Prim::Point(pb) => Rows::three(pb.sub(q)),
+            Prim::Circle {
+                center: _,
+                normal: _,
+                radius: _,
+            } => Rows::none(),
+        },
+        Prim::Circle {
+            center: _,
+            normal: _,
+            radius: _,
+        } => Rows::none(),
+    }
+}
+
+fn flush(offset: f64, a: Prim, b: Prim) -> Rows
+    ensures { λ r. ⌜ r ≡ spec.pack (spec.flushRows doubles offset (prim a) (prim b)) ⌝ }
+{
+    match a {
+        Prim::Plane {
+            point: pa,
+            normal: na,
+        } => match b {
+            Prim::Plane {
+                point: pb,
+                normal: nb,
+            } => Rows::four(na.sub(nb), gap(pb, pa, na, offset)),
+            Prim::Line { point: _, dir: _ } => Rows::none(),
+            Prim::Point(_) => Rows::none(),
+            Prim::Circle {
+                center: _,
+                normal: _,
+                radius: _,
+            } => Rows::none(),
+        },
+        Prim::Line { point: _, dir: _ } => Rows::none(),
+        Prim::Point(_) => Rows::none(),
+        Prim::Circle {
+            center: _,
+            normal: _,
+            radius: _,
+        } => Rows::none(),
+    }
+}
+
+// About the axis; a point has no direction, and no row.
+fn angle(want: f64, axis: Vec3, a: Direction, b: Direction) -> Rows
+    ensures { λ r. ⌜ r ≡ spec.pack (spec.angleRows want (vec axis) (direction a) (direction b)) ⌝ }
+{
+    match a {
+        Direction::Along(ua) => match b {
+            Direction::Along(ub) => Rows::one(wrap(turn(ua, ub, axis) - want)),
+            Direction::Nothing => Rows::none(),
+        },
+        Direction::Nothing => Rows::none(),
+    }
+}
+
+fn insert(offset: f64, aligned: bool, a: Prim, b: Prim) -> Rows
+    ensures { λ r. ⌜ r ≡ spec.pack (spec.insertRows doubles offset aligned (prim a) (prim b)) ⌝ }
+{
+    match a {
+        Prim::Circle {
+            center: ca,
+            normal: na,
+            radius: _,
+        } => match b {
+            Prim::Circle {
+                center: cb,
+                normal: nb,
+                radius: _,
+            } => {
+                let apart = cb.sub(ca).sub(na.scale(offset));
+                if aligned {
+                    Rows::six(na.sub(nb), apart)
+                } else {
+                    Rows::six(na.add(nb), apart)
+                }
+            }
+            Prim::Plane {
+                point: _,
+                normal: _,
+            } => Rows::none(),
+            Prim::Line { point: _, dir: _ } => Rows::none(),
+            Prim::Point(_) => Rows::none(),
+        },
+        Prim::Plane {
+            point: _,
+            normal: _,
+        } => Rows::none(),
+        Prim::Line { point: _, dir: _ } => Rows::none(),
+        Prim::Point(_) => Rows::none(),
+    }
+}
+
+// A plane and a line or a point.
+fn plane_tangent(want: f64, a: Prim, b: Prim) -> Rows
+    ensures { λ r. ⌜ r ≡ spec.pack (spec.planeTangentRows doubles want (prim a) (prim b)) ⌝ }
+{
+    match a {
+        Prim::Plane {
+            point: p,
+            normal: n,
+        } => match b {
+            Prim::Line { point: q, dir: d } => Rows::two(d.dot(n), gap(q, p, n, want)),
+            Prim::Point(c) => Rows::one(gap(c, p, n, want)),
+            Prim::Plane {
+                point: _,
+                normal: _,
+            } => Rows::none(),
+            Prim::Circle {
+                center: _,
+                normal: _,
+                radius: _,
+            } => Rows::none(),
+        },
+        Prim::Line { point: q, dir: d } => match b {
+            Prim::Plane {
+                point: p,
+                normal: n,
+            } => Rows::two(d.dot(n), gap(q, p, n, want)),
+            Prim::Line { point: _, dir: _ } => Rows::none(),
+            Prim::Point(_) => Rows::none(),
+            Prim::Circle {
+                center: _,
+                normal: _,
+                radius: _,
+            } => Rows::none(),
+        },
+        Prim::Point(c) => match b {
+            Prim::Plane {
+                point: p,
+                normal: n,
+            } => Rows::one(gap(c, p, n, want)),
+            Prim::Line { point: _, dir: _ } => Rows::none(),
+            Prim::Point(_) => Rows::none(),
+            Prim::Circle {
+                center: _,
+                normal: _,
+                radius: _,
+            } => Rows::none(),
+        },
+        Prim::Circle {
+            center: _,
+            normal: _,
+            radius: _,
+        } => Rows::none(),
+    }
+}
+
+// Two lines, two points, or one of each.
+fn round_tangent(want: f64, a: Prim, b: Prim) -> Rows
+    ensures { λ r. ⌜ r ≡ spec.pack (spec.roundTangentRows want (prim a) (prim b)) ⌝ }
+{
+    match a {
+        Prim::Line { point: pa, dir: da } => match b {
+            Prim::Line { point: pb, dir: db } => {
+                Rows::four(da.cross(db), perp(pb.sub(pa), da).len() - want)
+            }
+            Prim::Point(c) => Rows::one(perp(c.sub(pa), da).len() - want),
+            Prim::Plane {
+                point: _,
+                normal: _,
+            } => Rows::none(),
+            Prim::Circle {
+                center: _,
+                normal: _,
+                radius: _,
+            } => Rows::none(),
+        },
+        Prim::Point(c) => match b {
+            Prim::Line { point: p, dir: d } => Rows::one(perp(c.sub(p), d).len() - want),
+            Prim::Point(pb) => Rows::one(pb.sub(c).len() - want),
+            Prim::Plane {
+                point: _,
+                normal: _,
+            } => Rows::none(),
+            Prim::Circle {
+                center: _,
+                normal: _,
+                radius: _,
+            } => Rows::none(),
+        },
+        Prim::Plane {
+            point: _,
+            normal: _,
+        } => Rows::none(),
+        Prim::Circle {
+            center: _,
+            normal: _,
+            radius: _,
+        } => Rows::none(),
+    }
+}
+
+fn tangent(ra: f64, rb: f64, offset: f64, inside: bool, a: Prim, b: Prim) -> Rows
+    ensures { λ r. ⌜ r ≡ spec.pack (spec.tangentRows ra rb offset inside (prim a) (prim b)) ⌝ }
+{
+    if is_plane(a) {
+        return plane_tangent(plane_gap(ra, rb, offset, inside), a, b);
+    }
+    if is_plane(b) {
+        return plane_tangent(plane_gap(ra, rb, offset, inside), a, b);
+    }
+    round_tangent(round_gap(ra, rb, offset, inside), a, b)
+}
+
+// A direction mirrored in the plane with the normal ns.
+fn mirror_turn(ns: Vec3, v: Vec3) -> Vec3
+    ensures { λ r. ⌜ vec r ≡ spec.mirrorTurn doubles (vec ns) (vec v) ⌝ }
+{
+    v.sub(ns.scale(2.0 * v.dot(ns)))
+}
+
+// A point mirrored in the plane through s0 with the normal ns.
+fn mirror_place(s0: Vec3, ns: Vec3, p: Vec3) -> Vec3
+    ensures { λ r. ⌜ vec r ≡ spec.mirrorPlace doubles (vec s0) (vec ns) (vec p) ⌝ }
+{
+    p.sub(ns.scale(2.0 * p.sub(s0).dot(ns)))
+}
+
+// a's geometry mirrored in the plane is b's.
+fn mirror(s0: Vec3, ns: Vec3, a: Prim, b: Prim) -> Rows
+    ensures { λ r. ⌜ r ≡ spec.pack (spec.mirrorRows doubles (vec s0) (vec ns) (prim a) (prim b)) ⌝ }
+{
+    match a {
+        Prim::Plane {
+            point: pa,
+            normal: na,
+        } => match b {
+            Prim::Plane {
+                point: pb,
+                normal: nb,
+            } => Rows::four(
+                nb.sub(mirror_turn(ns, na)),
+                pb.sub(mirror_place(s0, ns, pa)).dot(nb),
+            ),
+            Prim::Line { point: _, dir: _ } => Rows::none(),
+            Prim::Point(_) => Rows::none(),
+            Prim::Circle {
+                center: _,
+                normal: _,
+                radius: _,
+            } => Rows::none(),
+        },
+        Prim::Line { point: pa, dir: da } => match b {
+            Prim::Line { point: pb, dir: db } => Rows::six(
+                db.cross(mirror_turn(ns, da)),
+                perp(pb.sub(mirror_place(s0, ns, pa)), db),
+            ),
+            Prim::Plane {
+                point: _,
+                normal: _,
+            } => Rows::none(),
+            Prim::Point(_) => Rows::none(),
+            Prim::Circle {
+                center: _,
+                normal: _,
+                radius: _,
+            } => Rows::none(),
+        },
+        Prim::Point(pa) => match b {
+            Prim::Point(pb) => Rows::three(pb.sub(mirror_place(s0, ns, pa))),
+            Prim::Plane {
+                point: _,
+                normal: _,
+            } => Rows::none(),
+            Prim::Line { point: _, dir: _ } => Rows::none(),
+            Prim::Circle {
+                center: _,
+                normal: _,
+                radius: _,
+            } => Rows::none(),
+        },
+        Prim::Circle {
+            center: _,
+            normal: _,
+            radius: _,
+        } => Rows::none(),
+    }
+}
+
+fn symmetry(s: Prim, a: Prim, b: Prim) -> Rows
+    ensures { λ r. ⌜ r ≡ spec.pack (spec.symmetryRows doubles (prim s) (prim a) (prim b)) ⌝ }
+{
+    match s {
+        Prim::Plane {
+            point: s0,
+            normal: ns,
+        } => mirror(s0, ns, a, b),
+        Prim::Line { point: _, dir: _ } => Rows::none(),
+        Prim::Point(_) => Rows::none(),
+        Prim::Circle {
+            center: _,
+            normal: _,
+            radius: _,
+        } => Rows::none(),
+    }
+}
+
+// A joint's frame in the assembly: origin, X, Z.
+pub struct JointAt {
+    pub o: Vec3,
+    pub x: Vec3,
+    pub z: Vec3,
+}
+
+// `joint_frame` of solve.rs.
+pub fn joint_at(e: End, q: Pose) -> JointAt
+    ensures { λ r. ⌜ spec.jointOf r ≡ spec.jointAt (endOf e) (pose q) ⌝ }
+{
+    let p = e.prim;
+    let f = p.joint_frame(e.mirrored);
+    let o = f.origin;
+    let x = f.x;
+    let z = f.z;
+    let r = q.r;
+    JointAt {
+        o: q.place(o),
+        x: r.apply(x),
+        z: r.apply(z),
+    }
+}
+
+// zb - za, or zb + za where not flipped.
+fn axes(flip: bool, a: JointAt, b: JointAt) -> Vec3
+    ensures { λ r. ⌜ vec r ≡ spec.axesApart flip (spec.jointOf a) (spec.jointOf b) ⌝ }
+{
+    let za = a.z;
+    let zb = b.z;
+    if flip {
+        zb.sub(za.scale(1.0))
+    } else {
+        zb.sub(za.scale(MINUS_ONE))
+    }
+}
+
+// ob - oa - za * offset
+fn origins(offset: f64, a: JointAt, b: JointAt) -> Vec3
+    ensures { λ r. ⌜ vec r ≡ spec.originsApart offset (spec.jointOf a) (spec.jointOf b) ⌝ }
+{
+    let oa = a.o;
+    let ob = b.o;
+    let za = a.z;
+    ob.sub(oa).sub(za.scale(offset))
+}
+
+// How far b's origin is off a's axis.
+fn off_axis(a: JointAt, b: JointAt) -> Vec3
+    ensures { λ r. ⌜ vec r ≡ spec.offAxis (spec.jointOf a) (spec.jointOf b) ⌝ }
+{
+    let oa = a.o;
+    let ob = b.o;
+    let za = a.z;
+    perp(ob.sub(oa), za)
+}
+
+fn turned(want: f64, a: JointAt, b: JointAt) -> f64
+    ensures { λ r. ⌜ r ≡ spec.turnedBy want (spec.jointOf a) (spec.jointOf b) ⌝ }
+{
+    let xa = a.x;
+    let xb = b.x;
+    let za = a.z;
+    wrap(turn(xa, xb, za) - want)
+}
+
+fn joint(kind: JointKind, flip: bool, offset: f64, want: f64, a: JointAt, b: JointAt) -> Rows
+    ensures { λ r. ⌜ r ≡ spec.pack (spec.jointRows kind flip offset want (spec.jointOf a) (spec.jointOf b)) ⌝ }
+{
+    match kind {
+        JointKind::Rigid => Rows::seven(
+            axes(flip, a, b),
+            origins(offset, a, b),
+            turned(want, a, b),
+        ),
+        JointKind::Revolute => Rows::six(axes(flip, a, b), origins(offset, a, b)),
+        JointKind::Slider => Rows::seven(axes(flip, a, b), off_axis(a, b), turned(want, a, b)),
+        JointKind::Cylindrical => Rows::six(axes(flip, a, b), off_axis(a, b)),
+        JointKind::Planar => {
+            let oa = a.o;
+            let ob = b.o;
+            let za = a.z;
+            Rows::four(axes(flip, a, b), gap(ob, oa, za, offset))
+        }
+        JointKind::Ball => {
+            let oa = a.o;
+            let ob = b.o;
+            Rows::three(ob.sub(oa))
+        }
+    }
+}
+
+// The rows of one relation, its ends at the poses qa and qb, symmetry's plane at qs.
+pub fn residual(rel: Rel, qa: Pose, qb: Pose, qs: Pose) -> Rows
+    ensures { λ r. ⌜ r ≡ spec.pack (spec.residual (lawOf (rel .law)) (endOf (rel .a)) (endOf (rel .b)) (pose qa) (pose qb) (pose qs)) ⌝ }
+{
+    let law = rel.law;
+    let a = rel.a;
+    let b = rel.b;
+    let pa = a.placed(qa);
+    let pb = b.placed(qb);
+    match law {
+        Law::Mate { offset } => mate(offset, mate_prim(pa), mate_prim(pb)),
+        Law::Flush { offset } => flush(offset, pa, pb),
+        Law::Angle {
+            angle: want,
+            reference,
+        } => {
+            let r = qa.r;
+            angle(want, r.apply(reference), pa.direction(), pb.direction())
+        }
+        Law::Insert { offset, aligned } => insert(offset, aligned, pa, pb),
+        Law::Tangent { offset, inside } => tangent(a.radius, b.radius, offset, inside, pa, pb),
+        Law::Symmetry { plane } => symmetry(plane.placed(qs), mate_prim(pa), mate_prim(pb)),
+        Law::Joint {
+            joint: kind,
+            flip,
+            offset,
+            angle: want,
+        } => joint(kind, flip, offset, want, joint_at(a, qa), joint_at(b, qb)),
+    }
+}

@@ -1,0 +1,288 @@
+-- What one trial leaves in the lent scratch, step by step. By the solver's laws on parts of the scratch. Assumes nothing.
+use mathlib.Core.Path.{_≡_, refl, sym, ap, _∙_}
+use mathlib.Core.Bool.{Bool, true, false, _&&_}
+use mathlib.Core.List.{List, [], _∷_, _++_}
+use mathlib.Core.Option.{Option, none, some}
+use Prim.Native.Nat.{ℕ, suc, _+_, _-_, _*_, _≤_, _<_}
+use native.Mathlib.Omega.{arith}
+use lib.Ieee.{Float, nan, binary64, mul, lt, ofBits}
+use lib.ListN.{length, getD, set, take, drop, length-take, length-drop}
+use lib.Seq.{take-length, take-suc, take-suc-set, getD-take, getD-drop, drop-set-add, drop-drop, ext-getD}
+use Rattle.numbers.specs.Double.{isFinite}
+use Rattle.vectors.specs.Tol.{ASSEMBLY}
+use Rattle.least_squares.specs.Memory.{part, Kept}
+use Rattle.least_squares.specs.Lm.{norm2, diagMax, dampTo, solveDense, stepped, stiffer, softer, judged, stepWith, trial}
+use Rattle.least_squares.specs.LmPosts.{Copied, Damped, Stepped}
+use Rattle.least_squares.specs.Dense.{given, Dense}
+use Rattle.scene.specs.Scene.{RowsAt}
+use Rattle.scene.specs.Solve.{Scene, rowsOf}
+use Rattle.scene.specs.declared.scene.Scene.{Scene as SceneStruct}
+use Rattle.least_squares.proofs.MemoryLaws.{part-at, kept-trans, kept-wider, kept-part-below, kept-part-above, kept-at-above, kept-tail, tail-part}
+use Rattle.rounds.specs.declared.places.Places.{Places as PlacesStruct}
+use Rattle.rounds.specs.declared.trial.Tried.{Tried as TriedStruct}
+use Rattle.rounds.specs.Places.{Arranged}
+use Rattle.rounds.specs.Rounds.{slopesIn, matrixIn, weightsIn, unknownsIn, rowsIn, stateIn, triedIn, answerIn, Leaves, Answered, Advanced, Taken, TrialMade}
+
+-- ---- copying back
+
+-- one more double of a copy to a place before
+pub copy-back-step : (o s : List Float) (a b k i : ℕ) → b + k ≤ a → a + k ≤ length o → i < k → Kept o s b (b + k) → part s b i ≡ part o a i
+    → part (set s (b + i) (getD s (a + i) nan)) b (suc i) ≡ part o a (suc i)
+copy-back-step o s a b k i h l m r e =
+    let v = getD s (a + i) nan in
+    let z = r .size in
+    let h1 : i < length (drop b s) = simp length-drop (omega arith) in
+    let h2 : i < length (drop a o) = simp length-drop (omega arith) in
+    let q : v ≡ getD (drop a o) i nan = kept-at-above o s b (b + k) (a + i) nan (omega arith) r ∙ sym (getD-drop a o i nan) in
+    ap (take (suc i)) (drop-set-add b s i v) ∙ take-suc-set (drop b s) i v h1 ∙ (λ j. e j ++ (q j ∷ [])) ∙ sym (take-suc (drop a o) i nan h2)
+
+-- ---- the step taken
+
+pub step-taken : (c : SceneStruct) (p : PlacesStruct) (s u t : List Float) (size : ℕ) → Arranged c p size → Copied s u (p .next) (p .x) (c .n)
+    → Copied u t (p .ahead) (p .rows) (c .rows) → Taken c p s t
+step-taken c p s u t size h a b =
+    record {
+      unknowns = below (p .x) (c .n) (omega arith) ∙ a .copy;
+      rows = b .copy ∙ above (p .ahead) (c .rows) (omega arith);
+      leaves = record {
+        keeps = record {
+          size = b .kept .size ∙ a .kept .size;
+          weights = before (p .weights) (c .n) (omega arith);
+          first = below (p .first) (c .n) (omega arith) ∙ above (p .first) (c .n) (omega arith);
+        };
+        slopes = before 0 (c .rows * c .n) (omega arith);
+        matrix = before (p .matrix) (c .rows * c .rows) (omega arith);
+      };
+    }
+  where
+    -- before the rows, behind the unknowns, before both
+    below : (o k : ℕ) → o + k ≤ p .rows → part t o k ≡ part u o k
+    below o k l = kept-part-below u t (p .rows) (p .rows + c .rows) o k l (b .kept)
+
+    above : (o k : ℕ) → p .x + c .n ≤ o → part u o k ≡ part s o k
+    above o k l = kept-part-above s u (p .x) (p .x + c .n) o k l (a .kept)
+
+    before : (o k : ℕ) → o + k ≤ p .x → part t o k ≡ part s o k
+    before o k l = below o k (omega arith) ∙ kept-part-below s u (p .x) (p .x + c .n) o k l (a .kept)
+
+-- ---- the equations
+
+-- the part that is lent from a on is the rest
+pub rest-lent : (a : ℕ) (w q : List Float) (n : ℕ) (ok : Bool) → Dense (take (length w - a) (drop a w)) q n ok → Dense (drop a w) q n ok
+rest-lent a w q n ok h = rw (← length-drop a w, take-length) at h
+
+module _ (c : SceneStruct) (p : PlacesStruct) (s u v w q : List Float) (mu most : Float) (ok : Bool) (size : ℕ) (fits : Arranged c p size) (long : p .damped ≤ length w)
+    (largest : most ≡ diagMax (matrixIn c p s) (c .rows))
+    (copied : Copied s u (p .matrix) (p .damped) (c .rows * c .rows))
+    (damped : Damped u v (p .damped) (c .rows) (mul binary64 mu most))
+    (moved : Copied v w (p .rows) (p .right) (c .rows))
+    (solved : Dense (drop (p .damped) w) q (c .rows) ok) where
+  matrix-there : part (drop (p .damped) w) 0 (c .rows * c .rows) ≡ dampTo (matrixIn c p s) (c .rows) (mul binary64 mu (diagMax (matrixIn c p s) (c .rows))) (c .rows)
+  matrix-there =
+      kept-part-below v w (p .right) (p .right + c .rows) (p .damped) (c .rows * c .rows) (omega arith) (moved .kept)
+      ∙ damped .matrix
+      ∙ (λ j. dampTo (copied .copy j) (c .rows) (mul binary64 mu (largest j)) (c .rows))
+
+  rows-there : part (drop (p .damped) w) (c .rows * c .rows) (c .rows) ≡ rowsIn c p s
+  rows-there =
+      ap (take (c .rows)) (drop-drop (c .rows * c .rows) (p .damped) w ∙ ap (λ (o : ℕ). drop o w) (fits .damped))
+      ∙ moved .copy
+      ∙ kept-part-above u v (p .damped) (p .damped + c .rows * c .rows) (p .rows) (c .rows) (omega arith) (damped .kept)
+      ∙ kept-part-above s u (p .damped) (p .damped + c .rows * c .rows) (p .rows) (c .rows) (omega arith) (copied .kept)
+
+  same-answer : solveDense (part (drop (p .damped) w) 0 (c .rows * c .rows)) (part (drop (p .damped) w) (c .rows * c .rows) (c .rows)) (c .rows) ≡ answerIn c p s mu
+  same-answer = λ j. solveDense (matrix-there j) (rows-there j) (c .rows)
+
+  wider : (a b : List Float) (lo hi : ℕ) → p .damped ≤ lo → hi ≤ p .right + c .rows → Kept a b lo hi → Kept a b (p .damped) (p .right + c .rows)
+  wider a b lo hi l h k = kept-wider a b lo hi (p .damped) (p .right + c .rows) l h k
+
+  pub answer-is : Answered c p s (take (p .damped) w ++ q) mu ok
+  answer-is =
+      record {
+        told = solved .told ∙ ap given same-answer;
+        answer = λ y e. ap (λ (o : ℕ). part (take (p .damped) w ++ q) o (c .rows)) (sym (fits .damped)) ∙ tail-part (p .damped) w q (c .rows * c .rows) (c .rows) long ∙ solved .answer y (same-answer ∙ e);
+        kept =
+            kept-trans s u (take (p .damped) w ++ q) _ _ (wider s u _ _ (omega arith) (omega arith) (copied .kept))
+            (kept-trans u v (take (p .damped) w ++ q) _ _ (wider u v _ _ (omega arith) (omega arith) (damped .kept))
+            (kept-trans v w (take (p .damped) w ++ q) _ _ (wider v w _ _ (omega arith) (omega arith) (moved .kept))
+            (wider w (take (p .damped) w ++ q) _ _ (omega arith) (omega arith) (kept-tail (p .damped) w q 0 (c .rows * c .rows + c .rows) long (solved .kept)))));
+      }
+
+-- ---- a step further
+
+part-same : (s t : List Float) (o k : ℕ) → length t ≡ length s → ((i : ℕ) → i < k → getD t (o + i) nan ≡ getD s (o + i) nan) → part t o k ≡ part s o k
+part-same s t o k e h = ext-getD nan (part t o k) (part s o k) (simp (length-take, length-drop) (omega arith)) at
+  where
+    at : (i : ℕ) → i < length (part t o k) → getD (part t o k) i nan ≡ getD (part s o k) i nan
+    at i l =
+        let m : i < k = omega (arith, simp length-take at l) in
+        part-at t o k i nan m ∙ h i m ∙ sym (part-at s o k i nan m)
+
+take-same : (s t : List Float) (k : ℕ) → length t ≡ length s → ((i : ℕ) → i < k → getD t i nan ≡ getD s i nan) → take k t ≡ take k s
+take-same s t k e h = ext-getD nan (take k t) (take k s) (simp length-take (omega arith)) at
+  where
+    at : (i : ℕ) → i < length (take k t) → getD (take k t) i nan ≡ getD (take k s) i nan
+    at i l =
+        let m : i < k = omega (arith, simp length-take at l) in
+        getD-take k t i nan m ∙ h i m ∙ sym (getD-take k s i nan m)
+
+pub advanced : (sc : Scene) (c : SceneStruct) (p : PlacesStruct) (s u t : List Float) (cost : Float) (size : ℕ) → Arranged c p size
+    → Stepped s u (c .n) (c .rows) (p .x) (p .weights) (p .right) (p .next)
+    → RowsAt sc u t (p .next) (c .n) (p .ahead) (c .rows) (p .poses)
+    → cost ≡ norm2 (part t (p .ahead) (c .rows))
+    → Advanced sc c p s t cost
+advanced sc c p s u t cost size h a b e =
+    record {
+      size = b .size ∙ a .kept .size;
+      unknowns = same ∙ a .unknowns;
+      rows = b .holds ∙ ap (rowsOf sc) (sym same);
+      cost-is = e;
+      below = take-same u t (p .next) (b .size) (λ i l. b .below i (omega arith)) ∙ a .kept .below;
+    }
+  where
+    same : part t (p .next) (c .n) ≡ part u (p .next) (c .n)
+    same = part-same u t (p .next) (c .n) (b .size) (λ i l. b .below (p .next + i) (omega arith))
+
+-- ---- a trial
+
+leaves-trans : (c : SceneStruct) (p : PlacesStruct) (s t u : List Float) → Leaves c p s t → Leaves c p t u → Leaves c p s u
+leaves-trans c p s t u a b =
+    record {
+      keeps = record {
+        size = b .keeps .size ∙ a .keeps .size;
+        weights = b .keeps .weights ∙ a .keeps .weights;
+        first = b .keeps .first ∙ a .keeps .first;
+      };
+      slopes = b .slopes ∙ a .slopes;
+      matrix = b .matrix ∙ a .matrix;
+    }
+
+-- the state at entry still stands, and what a trial reads
+pub record Stands (c : SceneStruct) (p : PlacesStruct) (s t : List Float) : Type 0 where
+  pub unknowns : unknownsIn c p t ≡ unknownsIn c p s
+  pub rows : rowsIn c p t ≡ rowsIn c p s
+  pub leaves : Leaves c p s t
+
+stands-trans : (c : SceneStruct) (p : PlacesStruct) (s t u : List Float) → Stands c p s t → Stands c p t u → Stands c p s u
+stands-trans c p s t u a b =
+    record { unknowns = b .unknowns ∙ a .unknowns; rows = b .rows ∙ a .rows; leaves = leaves-trans c p s t u (a .leaves) (b .leaves) }
+
+answered-stands : (c : SceneStruct) (p : PlacesStruct) (s t : List Float) (mu : Float) (ok : Bool) (size : ℕ) → Arranged c p size → Answered c p s t mu ok → Stands c p s t
+answered-stands c p s t mu ok size h a =
+    record {
+      unknowns = above (p .x) (c .n) (omega arith);
+      rows = above (p .rows) (c .rows) (omega arith);
+      leaves = record {
+        keeps = record {
+          size = a .kept .size;
+          weights = above (p .weights) (c .n) (omega arith);
+          first = above (p .first) (c .n) (omega arith);
+        };
+        slopes = below 0 (c .rows * c .n) (omega arith);
+        matrix = below (p .matrix) (c .rows * c .rows) (omega arith);
+      };
+    }
+  where
+    below : (o k : ℕ) → o + k ≤ p .damped → part t o k ≡ part s o k
+    below o k l = kept-part-below s t (p .damped) (p .right + c .rows) o k l (a .kept)
+
+    above : (o k : ℕ) → p .right + c .rows ≤ o → part t o k ≡ part s o k
+    above o k l = kept-part-above s t (p .damped) (p .right + c .rows) o k l (a .kept)
+
+advanced-stands : (sc : Scene) (c : SceneStruct) (p : PlacesStruct) (s t : List Float) (cost : Float) (size : ℕ) → Arranged c p size → Advanced sc c p s t cost → Stands c p s t
+advanced-stands sc c p s t cost size h a =
+    record {
+      unknowns = below (p .x) (c .n) (omega arith);
+      rows = below (p .rows) (c .rows) (omega arith);
+      leaves = record {
+        keeps = record {
+          size = a .size;
+          weights = below (p .weights) (c .n) (omega arith);
+          first = below (p .first) (c .n) (omega arith);
+        };
+        slopes = below 0 (c .rows * c .n) (omega arith);
+        matrix = below (p .matrix) (c .rows * c .rows) (omega arith);
+      };
+    }
+  where
+    at : (i : ℕ) → i < p .next → getD t i nan ≡ getD s i nan
+    at i l = sym (getD-take (p .next) t i nan l) ∙ ap (λ (w : List Float). getD w i nan) (a .below) ∙ getD-take (p .next) s i nan l
+
+    below : (o k : ℕ) → o + k ≤ p .next → part t o k ≡ part s o k
+    below o k l = part-same s t o k (a .size) (λ i m. at (o + i) (omega arith))
+
+-- by whether there is an answer
+not-given : (o : Option (List Float)) → false ≡ given o → o ≡ none
+not-given none e = refl
+not-given (some y) e = cc
+
+given-as : (o : Option (List Float)) (l : List Float) → true ≡ given o → ((y : List Float) → o ≡ some y → l ≡ y) → o ≡ some l
+given-as none l e h = cc
+given-as (some y) l e h = ap some (sym (h y refl))
+
+-- both tests of a step: r is the first
+pub both-hold : (r a b : Bool) → r ≡ a → r ≡ true → b ≡ true → (a && b) ≡ true
+both-hold r a b e t h = rw (← e, t, h)
+
+pub first-fails : (r a b : Bool) → r ≡ a → r ≡ false → (a && b) ≡ false
+first-fails r a b e t = rw (← e, t)
+
+pub second-fails : (r a b : Bool) → r ≡ a → r ≡ true → b ≡ false → (a && b) ≡ false
+second-fails r a b e t h = rw (← e, t, h)
+
+-- what a step that is not kept leaves of a state
+abbrev stiff : Float → Float → TriedStruct
+stiff cost mu = record { better = false; cost = cost; mu = mul binary64 mu (ofBits binary64 0x4024_0000_0000_0000) }
+
+stiffened : (c : SceneStruct) (p : PlacesStruct) (s t : List Float) (cost mu : Float) → Stands c p s t → triedIn c p t (stiff cost mu) ≡ stiffer (stateIn c p s cost mu)
+stiffened c p s t cost mu h =
+    λ j. record { state = record { x = h .unknowns j; r = h .rows j; cost = cost; mu = mul binary64 mu (ofBits binary64 0x4024_0000_0000_0000) }; better = false }
+
+pub no-answer : (sc : Scene) (c : SceneStruct) (p : PlacesStruct) (s t : List Float) (cost mu : Float) (ok : Bool) (size : ℕ) → Arranged c p size → Answered c p s t mu ok → ok ≡ false
+    → TrialMade sc c p s t cost mu (stiff cost mu)
+unfolding trial stepWith
+no-answer sc c p s t cost mu ok size h a e =
+    let st = answered-stands c p s t mu ok size h a in
+    record {
+      tried =
+          stiffened c p s t cost mu st
+          ∙ sym (ap (stepWith (rowsOf sc) (weightsIn c p s) ASSEMBLY (slopesIn c s) (c .rows) (stateIn c p s cost mu)) (not-given (answerIn c p s mu) (sym e ∙ a .told)));
+      leaves = st .leaves;
+    }
+
+module _ (sc : Scene) (c : SceneStruct) (p : PlacesStruct) (s u t : List Float) (cost mu next : Float) (ok : Bool) (size : ℕ) (fits : Arranged c p size)
+    (answer : Answered c p s u mu ok) (good : ok ≡ true) (far : Advanced sc c p u t next) where
+  stands : Stands c p s t
+  stands = stands-trans c p s u t (answered-stands c p s u mu ok size fits answer) (advanced-stands sc c p u t next size fits far)
+
+  -- a trial judges the unknowns and the rows of the step
+  judges :
+      trial (rowsOf sc) (weightsIn c p s) ASSEMBLY (slopesIn c s) (matrixIn c p s) (c .rows) (stateIn c p s cost mu)
+      ≡ judged (stateIn c p s cost mu) (part t (p .next) (c .n)) (part t (p .ahead) (c .rows))
+  unfolding trial stepWith
+  judges =
+      let g = answered-stands c p s u mu ok size fits answer in
+      let y = part u (p .right) (c .rows) in
+      let q : answerIn c p s mu ≡ some y = given-as (answerIn c p s mu) y (sym good ∙ answer .told) (answer .answer) in
+      let x : part t (p .next) (c .n) ≡ stepped (unknownsIn c p s) (slopesIn c s) (weightsIn c p s) y (c .rows) =
+      far .unknowns ∙ (λ j. stepped (g .unknowns j) (g .leaves .slopes j) (g .leaves .keeps .weights j) y (c .rows)) in
+      ap (stepWith (rowsOf sc) (weightsIn c p s) ASSEMBLY (slopesIn c s) (c .rows) (stateIn c p s cost mu)) q
+      ∙ ap (λ (l : List Float). judged (stateIn c p s cost mu) l (rowsOf sc l)) (sym x)
+      ∙ ap (judged (stateIn c p s cost mu) (part t (p .next) (c .n))) (sym (far .rows))
+
+  pub not-better : (isFinite next && lt next cost) ≡ false → TrialMade sc c p s t cost mu (stiff cost mu)
+  unfolding judged
+  not-better e =
+      let n : (isFinite (norm2 (part t (p .ahead) (c .rows))) && lt (norm2 (part t (p .ahead) (c .rows))) cost) ≡ false = rw (← far .cost-is) e in
+      record { tried = stiffened c p s t cost mu stands ∙ sym (judges ∙ rw n); leaves = stands .leaves }
+
+  pub better : (v : List Float) → (isFinite next && lt next cost) ≡ true → Taken c p t v → TrialMade sc c p s v cost mu (record { better = true; cost = next; mu = softer mu })
+  unfolding judged
+  better v e taken =
+      let n : (isFinite (norm2 (part t (p .ahead) (c .rows))) && lt (norm2 (part t (p .ahead) (c .rows))) cost) ≡ true = rw (← far .cost-is) e in
+      record {
+        tried =
+            (λ j. record { state = record { x = taken .unknowns j; r = taken .rows j; cost = far .cost-is j; mu = softer mu }; better = true })
+            ∙ sym (judges ∙ rw n);
+        leaves = leaves-trans c p s t v (stands .leaves) (taken .leaves);
+      }

@@ -1,0 +1,2 @@
+pub mod SceneLaws
+pub mod LayoutLaws

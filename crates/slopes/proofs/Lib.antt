@@ -1,0 +1,2 @@
+pub mod SlopeLaws
+pub mod NearLaws

@@ -1,0 +1,656 @@
+-- The slopes body by body: a relation that does not name a body has the same rows wherever the body stands, a body's pose depends on its own six unknowns only, and the
+-- bodies' unknowns follow one another. So the rows kept and the rows worked anew are those of the definition. Assumes nothing.
+use mathlib.Core.Path.{_≡_, refl, sym, ap, subst, _∙_}
+use mathlib.Core.Bool.{Bool, true, false, _||_}
+use mathlib.Core.List.{List, [], _∷_, _++_}
+use mathlib.Core.Option.{Option, none, some}
+use Prim.Native.Nat.{ℕ, zero, suc, _+_, _-_, _*_, _≤_, _<_}
+use native.Mathlib.Omega.{arith}
+use native.Mathlib.Numerals.{add-one}
+use native.Mathlib.Decide.{decLt, ℕ-discrete}
+use borrow.Author.Tests.{eq-eqb, ne-eqb}
+use lib.ListN.{length, getD, set, take, drop, length-set, length-take, length-drop}
+use lib.Seq.{getD-set-same, getD-set-other, set-set, set-getD, ext-getD, drop-drop, take-append-seam, drop-append-seam}
+use lib.Ieee.{Float, nan, binary64, add, sub}
+use Rattle.relations.specs.Geometry.{Pose}
+use Rattle.relations.specs.Model.{Body, Rel}
+use Rattle.relations.specs.Rows.{residual, ground}
+use Rattle.judging.specs.Count.{rowCount}
+use Rattle.judging.specs.CountLaws.{residual-length}
+use Rattle.records.specs.Record.{bodyAt, relAt}
+use Rattle.least_squares.specs.Lm.{stepOf, slopeOf, slope}
+use Rattle.least_squares.specs.LmPosts.{Copied}
+use Rattle.least_squares.specs.Memory.{part}
+use Rattle.scene.specs.Solve.{Scene, isBody, planeBody, names, moves, layoutFrom, layout, unknownsIn, three, movedPose, poseAt, posesFrom, posesAt, endPose, rowsAt, allRows, rowsOf}
+use Rattle.scene.specs.Scene.{firstUnknown, sceneOf, Laid, bodyPose, relRows, poseDoubles, posesDoubles, poseIn, posesIn, Put, PutNext, Column, SlopeColumn}
+use Rattle.scene.specs.declared.scene.Scene.{Scene as SceneStruct}
+use Rattle.least_squares.proofs.MemoryLaws.{part-at, part-set, part-set-below, part-part, kept-refl, kept-set, kept-part-below, kept-part-above, kept-at-below, kept-at-above}
+use Rattle.least_squares.proofs.TableLaws.{length-listOf, in-rows}
+use Rattle.scene.proofs.SceneLaws.{Growing, growing-room, restRows, rows-next, next-layout, length-layout, length-poses, length-bodies, laid-length, bodies-next, layout-next, poses-kept, poses-there, pose-of}
+use Rattle.slopes.proofs.SlopeLaws.{Columns, columns-start, columns-part, slope-column-is}
+use Rattle.slopes.specs.NearSlopes.{RowsBut, Near, NearRows, Among, NearColumn, ColumnsFrom, SixColumns, Standing, Started, BodyColumns, given}
+
+-- a part whose doubles are all as they were
+part-same : (s t : List Float) (o k : ℕ) → length t ≡ length s → ((i : ℕ) → i < k → getD t (o + i) nan ≡ getD s (o + i) nan) → part t o k ≡ part s o k
+part-same s t o k e h = ext-getD nan (part t o k) (part s o k) (simp (length-take, length-drop) (omega arith)) at
+  where
+    at : (i : ℕ) → i < length (part t o k) → getD (part t o k) i nan ≡ getD (part s o k) i nan
+    at i l =
+        let m : i < k = omega (arith, simp length-take at l) in
+        part-at t o k i nan m ∙ h i m ∙ sym (part-at s o k i nan m)
+
+-- ---- a relation that does not name the body
+
+or-left : (a b : Bool) → (a || b) ≡ false → a ≡ false
+or-left true b e = e
+or-left false b e = refl
+
+or-right : (a b : Bool) → (a || b) ≡ false → b ≡ false
+or-right true b e = absurd (let z : _≡_ {A = ℕ} 0 1 = cc in omega arith)
+or-right false b e = e
+
+end-other : (poses : List (Pose Float)) (i : ℕ) (q : Pose Float) (b : Option ℕ) → isBody b i ≡ false → endPose (set poses i q) b ≡ endPose poses b
+end-other poses i q none e = refl
+end-other poses i q (some k) e = getD-set-other poses i k q ground (λ f. let t = eq-eqb k i f in absurd (let z : _≡_ {A = ℕ} 0 1 = cc in omega arith))
+
+pub rows-other : (poses : List (Pose Float)) (i : ℕ) (q : Pose Float) (rel : Rel) → names rel i ≡ false → rowsAt (set poses i q) rel ≡ rowsAt poses rel
+unfolding names
+rows-other poses i q rel e =
+    let k = isBody (rel .a .body) i in
+    let l = isBody (rel .b .body) i in
+    let m = isBody (planeBody (rel .law)) i in
+    let r = or-right k (l || m) e in
+    let a = end-other poses i q (rel .a .body) (or-left k (l || m) e) in
+    let b = end-other poses i q (rel .b .body) (or-left l m r) in
+    let d = end-other poses i q (planeBody (rel .law)) (or-right l m r) in
+    λ z. residual (rel .law) (rel .a) (rel .b) (a z) (b z) (d z)
+
+-- ---- a body's pose depends on its own unknowns only
+
+three-far : (x : List Float) (c k : ℕ) (v : Float) → (k ≡ c → ⊥) → (k + 1 ≡ c → ⊥) → (k + 2 ≡ c → ⊥) → three (set x c v) k ≡ three x k
+three-far x c k v f g h =
+    let a = getD-set-other x c k v nan f in
+    let b = getD-set-other x c (k + 1) v nan g in
+    let d = getD-set-other x c (k + 2) v nan h in
+    λ z. record { x = a z; y = b z; z = d z }
+
+pose-after : (x : List Float) (b : Body) (c k : ℕ) (v : Float) → c < k → poseAt (set x c v) b (some k) ≡ poseAt x b (some k)
+unfolding poseAt
+pose-after x b c k v h =
+    let d = three-far x c k v (λ e. absurd (omega arith)) (λ e. absurd (omega arith)) (λ e. absurd (omega arith)) in
+    let f = three-far x c (k + 3) v (λ e. absurd (omega arith)) (λ e. absurd (omega arith)) (λ e. absurd (omega arith)) in
+    λ z. movedPose b (d z) (f z)
+
+pose-before : (x : List Float) (b : Body) (c k : ℕ) (v : Float) → k + 6 ≤ c → poseAt (set x c v) b (some k) ≡ poseAt x b (some k)
+unfolding poseAt
+pose-before x b c k v h =
+    let d = three-far x c k v (λ e. absurd (omega arith)) (λ e. absurd (omega arith)) (λ e. absurd (omega arith)) in
+    let f = three-far x c (k + 3) v (λ e. absurd (omega arith)) (λ e. absurd (omega arith)) (λ e. absurd (omega arith)) in
+    λ z. movedPose b (d z) (f z)
+
+pose-none : (x : List Float) (b : Body) (c : ℕ) (v : Float) → poseAt (set x c v) b none ≡ poseAt x b none
+unfolding poseAt
+pose-none x b c v = refl
+
+-- bodies whose unknowns all follow c
+poses-after : (rels : List Rel) (i next : ℕ) (bodies : List Body) (x : List Float) (c : ℕ) (v : Float) → c < next
+    → posesFrom (set x c v) bodies (layoutFrom rels i next bodies) ≡ posesFrom x bodies (layoutFrom rels i next bodies)
+unfolding layoutFrom posesFrom
+poses-after rels i next [] x c v h = refl
+poses-after rels i next (b ∷ bodies) x c v h = go (moves rels i b) (λ n l. poses-after rels (suc i) n bodies x c v l)
+  where
+    go : (t : Bool)
+        → ((n : ℕ) → c < n → posesFrom (set x c v) bodies (layoutFrom rels (suc i) n bodies) ≡ posesFrom x bodies (layoutFrom rels (suc i) n bodies))
+        → posesFrom (set x c v) (b ∷ bodies) (next-layout rels i next bodies t) ≡ posesFrom x (b ∷ bodies) (next-layout rels i next bodies t)
+    go true k = let a = pose-after x b c next v h in let d = k (next + 6) (omega arith) in λ z. a z ∷ d z
+    go false k = let a = pose-none x b c v in let d = k next h in λ z. a z ∷ d z
+
+-- a body's unknowns do not come before the first that was free
+layout-above : (rels : List Rel) (i next : ℕ) (bodies : List Body) (j k : ℕ) → getD (layoutFrom rels i next bodies) j none ≡ some k → next ≤ k
+unfolding layoutFrom
+layout-above rels i next [] zero k e = let z : _≡_ {A = ℕ} 0 1 = cc in omega arith
+layout-above rels i next [] (suc j) k e = let z : _≡_ {A = ℕ} 0 1 = cc in omega arith
+layout-above rels i next (b ∷ bodies) zero k e = go (moves rels i b) e
+  where
+    go : (t : Bool) → getD (next-layout rels i next bodies t) 0 none ≡ some k → next ≤ k
+    go true f = let w : next ≡ k = cc in omega arith
+    go false f = let z : _≡_ {A = ℕ} 0 1 = cc in omega arith
+layout-above rels i next (b ∷ bodies) (suc j) k e = go (moves rels i b) e (λ n f. layout-above rels (suc i) n bodies j k f)
+  where
+    go : (t : Bool) → getD (next-layout rels i next bodies t) (suc j) none ≡ some k → ((n : ℕ) → getD (layoutFrom rels (suc i) n bodies) j none ≡ some k → n ≤ k) → next ≤ k
+    go true f h = let w = h (next + 6) f in omega arith
+    go false f h = h next f
+
+poses-far : (rels : List Rel) (i next : ℕ) (bodies : List Body) (j k : ℕ) (x : List Float) (c : ℕ) (v : Float) (w : Pose Float) → getD (layoutFrom rels i next bodies) j none ≡ some k → k ≤ c
+    → c < k + 6
+    → set (posesFrom (set x c v) bodies (layoutFrom rels i next bodies)) j w ≡ set (posesFrom x bodies (layoutFrom rels i next bodies)) j w
+unfolding layoutFrom posesFrom
+poses-far rels i next [] j k x c v w e l h = refl
+poses-far rels i next (b ∷ bodies) zero k x c v w e l h = go (moves rels i b) e
+  where
+    go : (t : Bool) → getD (next-layout rels i next bodies t) 0 none ≡ some k
+        → set (posesFrom (set x c v) (b ∷ bodies) (next-layout rels i next bodies t)) 0 w ≡ set (posesFrom x (b ∷ bodies) (next-layout rels i next bodies t)) 0 w
+    go true f = let d : next ≡ k = cc in let a = poses-after rels (suc i) (next + 6) bodies x c v (omega arith) in λ z. w ∷ a z
+    go false f = absurd (let z : _≡_ {A = ℕ} 0 1 = cc in omega arith)
+poses-far rels i next (b ∷ bodies) (suc j) k x c v w e l h = go (moves rels i b) e (λ n f. poses-far rels (suc i) n bodies j k x c v w f l h) (λ n f. layout-above rels (suc i) n bodies j k f)
+  where
+    go : (t : Bool) → getD (next-layout rels i next bodies t) (suc j) none ≡ some k
+        → ((n : ℕ) → getD (layoutFrom rels (suc i) n bodies) j none ≡ some k
+        → set (posesFrom (set x c v) bodies (layoutFrom rels (suc i) n bodies)) j w ≡ set (posesFrom x bodies (layoutFrom rels (suc i) n bodies)) j w)
+        → ((n : ℕ) → getD (layoutFrom rels (suc i) n bodies) j none ≡ some k → n ≤ k)
+        → set (posesFrom (set x c v) (b ∷ bodies) (next-layout rels i next bodies t)) (suc j) w ≡ set (posesFrom x (b ∷ bodies) (next-layout rels i next bodies t)) (suc j) w
+    go true f r g = let u = g (next + 6) f in let a = pose-before x b c next v (omega arith) in let d = r (next + 6) f in λ z. a z ∷ d z
+    go false f r g = let a = pose-none x b c v in let d = r next f in λ z. a z ∷ d z
+
+pub unknown-far : (sc : Scene) (i c : ℕ) (xs : List Float) (v : Float) (w : Pose Float) → Among sc i c → set (posesAt sc (set xs c v)) i w ≡ set (posesAt sc xs) i w
+unknown-far sc i c xs v w g = poses-far (sc .rels) 0 0 (sc .bodies) i (g .first) xs c v w (g .given) (g .low) (g .high)
+
+-- ---- the unknowns follow one another
+
+given-is : (rels : List Rel) (i next : ℕ) (bodies : List Body) (j k : ℕ) → getD (layoutFrom rels i next bodies) j none ≡ some k → k ≡ next + unknownsIn (take j (layoutFrom rels i next bodies))
+unfolding layoutFrom unknownsIn
+given-is rels i next [] zero k e = absurd (let z : _≡_ {A = ℕ} 0 1 = cc in omega arith)
+given-is rels i next [] (suc j) k e = absurd (let z : _≡_ {A = ℕ} 0 1 = cc in omega arith)
+given-is rels i next (b ∷ bodies) zero k e = go (moves rels i b) e
+  where
+    go : (t : Bool) → getD (next-layout rels i next bodies t) 0 none ≡ some k → k ≡ next + unknownsIn (take 0 (next-layout rels i next bodies t))
+    go true f = let w : next ≡ k = cc in omega arith
+    go false f = absurd (let z : _≡_ {A = ℕ} 0 1 = cc in omega arith)
+given-is rels i next (b ∷ bodies) (suc j) k e = go (moves rels i b) e (λ n f. given-is rels (suc i) n bodies j k f)
+  where
+    go : (t : Bool) → getD (next-layout rels i next bodies t) (suc j) none ≡ some k
+        → ((n : ℕ) → getD (layoutFrom rels (suc i) n bodies) j none ≡ some k → k ≡ n + unknownsIn (take j (layoutFrom rels (suc i) n bodies)))
+        → k ≡ next + unknownsIn (take (suc j) (next-layout rels i next bodies t))
+    go true f h = let w = h (next + 6) f in omega arith
+    go false f h = h next f
+
+more-given : (l : List (Option ℕ)) (j k : ℕ) → getD l j none ≡ some k → unknownsIn (take (suc j) l) ≡ unknownsIn (take j l) + 6
+unfolding unknownsIn
+more-given [] j k e = absurd (let z : _≡_ {A = ℕ} 0 1 = cc in omega arith)
+more-given (none ∷ l) zero k e = absurd (let z : _≡_ {A = ℕ} 0 1 = cc in omega arith)
+more-given (some q ∷ l) zero k e = omega arith
+more-given (none ∷ l) (suc j) k e = more-given l j k e
+more-given (some q ∷ l) (suc j) k e = let w = more-given l j k e in omega arith
+
+none-given : (l : List (Option ℕ)) (j : ℕ) → getD l j none ≡ none → unknownsIn (take (suc j) l) ≡ unknownsIn (take j l)
+unfolding unknownsIn
+none-given [] zero e = refl
+none-given [] (suc j) e = refl
+none-given (none ∷ l) zero e = refl
+none-given (some q ∷ l) zero e = absurd (let z : _≡_ {A = ℕ} 0 1 = cc in omega arith)
+none-given (none ∷ l) (suc j) e = none-given l j e
+none-given (some q ∷ l) (suc j) e = let w = none-given l j e in omega arith
+
+take-whole : (l : List (Option ℕ)) (n : ℕ) → length l ≡ n → take n l ≡ l
+take-whole [] zero e = refl
+take-whole [] (suc n) e = refl
+take-whole (k ∷ l) zero e = absurd (omega arith)
+take-whole (k ∷ l) (suc n) e = ap (λ r. k ∷ r) (take-whole l n (omega arith))
+
+pub given-first : (sc : Scene) (i k : ℕ) → getD (layout sc) i none ≡ some k → k ≡ given sc i
+given-first sc i k e = let w = given-is (sc .rels) 0 0 (sc .bodies) i k e in omega arith
+
+pub given-next : (sc : Scene) (i k : ℕ) → getD (layout sc) i none ≡ some k → k + 6 ≡ given sc (i + 1)
+given-next sc i k e = let w = given-first sc i k e in let v = more-given (layout sc) i k e in ap (λ (q : ℕ). q + 6) w ∙ sym v ∙ ap (given sc) (sym (add-one i))
+
+pub given-still : (sc : Scene) (i : ℕ) → getD (layout sc) i none ≡ none → given sc (i + 1) ≡ given sc i
+given-still sc i e = ap (given sc) (add-one i) ∙ none-given (layout sc) i e
+
+pub given-all : (sheet : List ℕ) (c : SceneStruct) (i : ℕ) → Laid sheet c → i ≡ c .m → given (sceneOf sheet c) i ≡ c .n
+given-all sheet c i laid e = ap unknownsIn (take-whole (layout (sceneOf sheet c)) i (laid-length sheet c ∙ sym e)) ∙ sym (laid .unknown-count)
+
+-- ---- one pose put anew
+
+-- twelve doubles that are the same are the same pose
+pose-same : (s t : List Float) (w : ℕ) → ((q : ℕ) → w ≤ q → q < w + 12 → getD t q nan ≡ getD s q nan) → poseIn t w ≡ poseIn s w
+pose-same s t w h =
+    let a0 = h w (omega arith) (omega arith) in
+    let a1 = h (w + 1) (omega arith) (omega arith) in
+    let a2 = h (w + 2) (omega arith) (omega arith) in
+    let b0 = h (w + 3) (omega arith) (omega arith) in
+    let b1 = h (w + 3 + 1) (omega arith) (omega arith) in
+    let b2 = h (w + 3 + 2) (omega arith) (omega arith) in
+    let c0 = h (w + 6) (omega arith) (omega arith) in
+    let c1 = h (w + 6 + 1) (omega arith) (omega arith) in
+    let c2 = h (w + 6 + 2) (omega arith) (omega arith) in
+    let d0 = h (w + 9) (omega arith) (omega arith) in
+    let d1 = h (w + 9 + 1) (omega arith) (omega arith) in
+    let d2 = h (w + 9 + 2) (omega arith) (omega arith) in
+    λ v.
+    record {
+      r = record { r0 = record { x = a0 v; y = a1 v; z = a2 v }; r1 = record { x = b0 v; y = b1 v; z = b2 v }; r2 = record { x = c0 v; y = c1 v; z = c2 v } };
+      t = record { x = d0 v; y = d1 v; z = d2 v };
+    }
+
+-- the pose that was put
+pose-put : (s t : List Float) (w : ℕ) (q : Pose Float) → Put s t w 12 (poseDoubles q) → poseIn t w ≡ q
+unfolding posesDoubles
+pose-put s t w q y =
+    let e : posesIn t w 1 ≡ q ∷ [] = poses-there t w 12 (q ∷ []) (y .holds) refl 1 refl in
+    let z : w ≡ w + 12 * 0 = omega arith in
+    ap (poseIn t) z ∙ pose-of t w 1 0 (omega arith) ∙ ap (λ (l : List (Pose Float)). getD l 0 ground) e
+
+module _ (s t : List Float) (p m i : ℕ) (q : Pose Float) (h : i < m) (y : Put s t (p + 12 * i) 12 (poseDoubles q)) where
+  pose-other : (k : ℕ) → (k ≡ i → ⊥) → poseIn t (p + 12 * k) ≡ poseIn s (p + 12 * k)
+  pose-other k n = pose-same s t (p + 12 * k) (λ w a b. go w a b (decLt k i))
+    where
+      go : (w : ℕ) → p + 12 * k ≤ w → w < p + 12 * k + 12 → Dec (k < i) → getD t w nan ≡ getD s w nan
+      go w a b (yes l) = kept-at-below s t (p + 12 * i) (p + 12 * i + 12) w nan (omega arith) (y .kept)
+      go w a b (no l) =
+          let g : i < k = omega arith in
+          kept-at-above s t (p + 12 * i) (p + 12 * i + 12) w nan (omega arith) (y .kept)
+
+  poses-put : posesIn t p m ≡ set (posesIn s p m) i q
+  poses-put = ext-getD ground (posesIn t p m) (set (posesIn s p m) i q) lengths at
+    where
+      lengths : length (posesIn t p m) ≡ length (set (posesIn s p m) i q)
+      lengths = length-listOf _ m ∙ sym (length-set (posesIn s p m) i q ∙ length-listOf _ m)
+
+      at : (k : ℕ) → k < length (posesIn t p m) → getD (posesIn t p m) k ground ≡ getD (set (posesIn s p m) i q) k ground
+      at k l =
+          let b : k < m = rw (length-listOf (λ i. poseIn t (p + 12 * i)) m) at l in
+          elim (ℕ-discrete k i) [
+            | yes e ↦
+                sym (pose-of t p m k b) ∙ ap (λ (w : ℕ). poseIn t (p + 12 * w)) e ∙ pose-put s t (p + 12 * i) q y
+                ∙ sym (getD-set-same (posesIn s p m) i q ground (rw (length-listOf (λ i. poseIn s (p + 12 * i)) m) h))
+                ∙ ap (λ (w : ℕ). getD (set (posesIn s p m) i q) w ground) (sym e)
+            | no n ↦ sym (pose-of t p m k b) ∙ pose-other k n ∙ pose-of s p m k b ∙ sym (getD-set-other (posesIn s p m) i k q ground n)
+          ]
+
+-- a body put where it stands
+poses-back : (xs : List Float) (bodies : List Body) (l : List (Option ℕ)) (i : ℕ) (b : Body) (k : Option ℕ) (bs : List Body) (ks : List (Option ℕ)) → drop i bodies ≡ b ∷ bs → drop i l ≡ k ∷ ks
+    → set (posesFrom xs bodies l) i (poseAt xs b k) ≡ posesFrom xs bodies l
+unfolding posesFrom
+poses-back xs [] l i b k bs ks e f = refl
+poses-back xs (d ∷ bodies) [] i b k bs ks e f = refl
+poses-back xs (d ∷ bodies) (q ∷ l) zero b k bs ks e f =
+    let w : b ≡ d = cc in
+    let v : k ≡ q = cc in
+    λ z. poseAt xs (w z) (v z) ∷ posesFrom xs bodies l
+poses-back xs (d ∷ bodies) (q ∷ l) (suc i) b k bs ks e f = ap (λ (r : List (Pose Float)). poseAt xs d q ∷ r) (poses-back xs bodies l i b k bs ks e f)
+
+-- ---- the rows, relation by relation
+
+pub rel-alike : (sheet : List ℕ) (c : SceneStruct) (poses poses' : List (Pose Float)) (j : ℕ) → length (relRows sheet c poses j) ≡ length (relRows sheet c poses' j)
+rel-alike sheet c poses poses' j = residual-length _ _ _ _ _ _ ∙ sym (residual-length _ _ _ _ _ _)
+
+-- what stood from `at` on are the rows from relation j on
+pub record OldRows (sheet : List ℕ) (c : SceneStruct) (s : List Float) (r at j : ℕ) : Type 0 where
+  pub rest : (poses : List (Pose Float)) → part s r (c .rows) ≡ allRows poses (sceneOf sheet c .rels) → drop (at - r) (part s r (c .rows)) ≡ restRows sheet c poses j
+
+pub old-start : (sheet : List ℕ) (c : SceneStruct) (s : List Float) (r : ℕ) → OldRows sheet c s r r 0
+old-start sheet c s r = record { rest = λ poses e. let z : r - r ≡ 0 = omega arith in ap (λ (w : ℕ). drop w (part s r (c .rows))) z ∙ e }
+
+pub old-step : (sheet : List ℕ) (c : SceneStruct) (s : List Float) (r at at' j : ℕ) (poses : List (Pose Float)) → j < c .k → r ≤ at → at' ≡ at + length (relRows sheet c poses j)
+    → OldRows sheet c s r at j → OldRows sheet c s r at' (j + 1)
+old-step sheet c s r at at' j poses h l e g = record { rest = go }
+  where
+    go : (q : List (Pose Float)) → part s r (c .rows) ≡ allRows q (sceneOf sheet c .rels) → drop (at' - r) (part s r (c .rows)) ≡ restRows sheet c q (j + 1)
+    go q f =
+        let n = rel-alike sheet c poses q j in
+        let z : at' - r ≡ at - r + length (relRows sheet c q j) = omega arith in
+        ap (λ (w : ℕ). drop w (part s r (c .rows))) z ∙ sym (drop-drop (length (relRows sheet c q j)) (at - r) (part s r (c .rows)))
+        ∙ ap (drop (length (relRows sheet c q j))) (g .rest q f ∙ rows-next sheet c q j h)
+        ∙ drop-append-seam (relRows sheet c q j) (restRows sheet c q (suc j))
+        ∙ ap (restRows sheet c q) (sym (add-one j))
+
+module _ (sheet : List ℕ) (c : SceneStruct) (s t : List Float) (p r at j i : ℕ) (laid : Laid sheet c) (h : j < c .k) (l : r ≤ at) (m : at ≤ p) (f : p + 12 * c .m ≤ length s)
+    (g : Growing s t r (at - r) (restRows sheet c (posesIn s p (c .m)) j) (allRows (posesIn s p (c .m)) (sceneOf sheet c .rels))) (old : OldRows sheet c s r at j)
+    (but : RowsBut (sceneOf sheet c) i (posesIn s p (c .m)) (part s r (c .rows))) (no : names (relAt sheet (c .rels + 264 * j)) i ≡ false) where
+  room : at - r + length (relRows sheet c (posesIn s p (c .m)) j) ≤ c .rows
+  room =
+      let a = growing-room s t r (at - r) (relRows sheet c (posesIn s p (c .m)) j) (restRows sheet c (posesIn s p (c .m)) j) (restRows sheet c (posesIn s p (c .m)) (suc j))
+      (allRows (posesIn s p (c .m)) (sceneOf sheet c .rels))
+      (omega arith)
+      (rows-next sheet c (posesIn s p (c .m)) j h)
+      g in
+      let b = laid .row-count (posesIn s p (c .m)) in
+      omega arith
+
+  old-here : part s at (length (relRows sheet c (posesIn s p (c .m)) j)) ≡ relRows sheet c (posesIn s p (c .m)) j
+  old-here =
+      let n = rel-alike sheet c (posesIn s p (c .m)) (set (posesIn s p (c .m)) i (but .pose)) j in
+      let z : at ≡ r + (at - r) = omega arith in
+      let w = room in
+      ap (λ (v : ℕ). part s v (length (relRows sheet c (posesIn s p (c .m)) j))) z
+      ∙ sym (part-part s r (c .rows) (at - r) (length (relRows sheet c (posesIn s p (c .m)) j)) w)
+      ∙ ap (take (length (relRows sheet c (posesIn s p (c .m)) j))) (old .rest (set (posesIn s p (c .m)) i (but .pose)) (but .holds) ∙ rows-next sheet c (set (posesIn s p (c .m)) i (but .pose)) j h)
+      ∙ ap (λ (v : ℕ). take v (relRows sheet c (set (posesIn s p (c .m)) i (but .pose)) j ++ restRows sheet c (set (posesIn s p (c .m)) i (but .pose)) (suc j))) n
+      ∙ take-append-seam (relRows sheet c (set (posesIn s p (c .m)) i (but .pose)) j) (restRows sheet c (set (posesIn s p (c .m)) i (but .pose)) (suc j))
+      ∙ rows-other (posesIn s p (c .m)) i (but .pose) (relAt sheet (c .rels + 264 * j)) no
+
+  -- the rows of a relation that does not name the body stand where they belong
+  pub kept-rows : part t at (length (relRows sheet c (posesIn t p (c .m)) j)) ≡ relRows sheet c (posesIn t p (c .m)) j
+  kept-rows =
+      let e = poses-kept s t r (r + (at - r)) p (c .m) (omega arith) (g .kept) in
+      subst (λ (q : List (Pose Float)). part t at (length (relRows sheet c q j)) ≡ relRows sheet c q j) (sym e)
+      (kept-part-above s t r (r + (at - r)) at (length (relRows sheet c (posesIn s p (c .m)) j)) (omega arith) (g .kept) ∙ old-here)
+
+-- rows that stand where they belong
+pub put-there : (s : List Float) (o r : ℕ) (l : List Float) → r ≡ o + length l → part s o (length l) ≡ l → PutNext s s o r (length l) l
+put-there s o r l e h = record { next = e; put = record { holds = h; kept = kept-refl s o (o + length l) } }
+
+-- ---- the rows of the unknowns, near to those that stand
+
+module _ (sheet : List ℕ) (c : SceneStruct) (s u : List Float) (y r p i : ℕ) (laid : Laid sheet c) (h : i < c .m) (r-p : r + c .rows ≤ p)
+    (g : Near (sceneOf sheet c) s p (c .m) i r (c .rows) (part s y (c .n))) (put : Put s u (p + 12 * i) 12 (poseDoubles (bodyPose sheet c (part s y (c .n)) i))) where
+  poses-now : posesIn u p (c .m) ≡ posesAt (sceneOf sheet c) (part s y (c .n))
+  poses-now =
+      poses-put s u p (c .m) i (bodyPose sheet c (part s y (c .n)) i) h put ∙ g .poses (bodyPose sheet c (part s y (c .n)) i)
+      ∙ poses-back (part s y (c .n)) (sceneOf sheet c .bodies) (layout (sceneOf sheet c)) i (bodyAt sheet (c .bodies + 136 * i)) (firstUnknown (getD (c .index) i 0)) _ _ (bodies-next sheet c i h)
+      (layout-next sheet c i laid h)
+
+  pub near-but : RowsBut (sceneOf sheet c) i (posesIn u p (c .m)) (part u r (c .rows))
+  near-but =
+      record {
+        pose = g .but .pose;
+        holds =
+            kept-part-below s u (p + 12 * i) (p + 12 * i + 12) r (c .rows) (omega arith) (put .kept) ∙ g .but .holds
+            ∙ ap (λ (l : List (Pose Float)). allRows (set l i (g .but .pose)) (sceneOf sheet c .rels)) (sym poses-now);
+      }
+
+  pub near-rows-is : (t : List Float) → Put u t r (c .rows) (allRows (posesIn u p (c .m)) (sceneOf sheet c .rels)) → NearRows (sceneOf sheet c) s t y (c .n) r (c .rows) p (c .m)
+  near-rows-is t b =
+      record {
+        rows-at =
+            record {
+              size = b .kept .size ∙ put .kept .size;
+              holds = b .holds ∙ ap (λ (l : List (Pose Float)). allRows l (sceneOf sheet c .rels)) poses-now;
+              below = λ q k. kept-at-below u t r (r + c .rows) q nan k (b .kept) ∙ kept-at-below s u (p + 12 * i) (p + 12 * i + 12) q nan (omega arith) (put .kept);
+              between = λ q k v. kept-at-above u t r (r + c .rows) q nan k (b .kept) ∙ kept-at-below s u (p + 12 * i) (p + 12 * i + 12) q nan (omega arith) (put .kept);
+            };
+        poses = poses-kept u t r (r + c .rows) p (c .m) r-p (b .kept) ∙ poses-now;
+      }
+
+-- from unknowns to unknowns that differ in body i's only
+near-moved : (sc : Scene) (s t : List Float) (p m i r rows : ℕ) (xs ys : List Float) → ((w : Pose Float) → set (posesAt sc ys) i w ≡ set (posesAt sc xs) i w)
+    → ((w : Pose Float) → set (posesIn t p m) i w ≡ set (posesAt sc xs) i w)
+    → part t r rows ≡ part s r rows → Near sc s p m i r rows xs → Near sc t p m i r rows ys
+near-moved sc s t p m i r rows xs ys d f e g =
+    record {
+      poses = λ w. f w ∙ sym (d w);
+      but = record { pose = g .but .pose; holds = e ∙ g .but .holds ∙ ap (λ (l : List (Pose Float)). allRows l (sc .rels)) (sym (d (g .but .pose))) };
+    }
+
+near-made : (sc : Scene) (t : List Float) (p m i r rows : ℕ) (xs ys : List Float) → ((w : Pose Float) → set (posesAt sc ys) i w ≡ set (posesAt sc xs) i w)
+    → ((w : Pose Float) → set (posesIn t p m) i w ≡ set (posesAt sc xs) i w)
+    → part t r rows ≡ rowsOf sc ys → Near sc t p m i r rows xs
+near-made sc t p m i r rows xs ys d f e =
+    record {
+      poses = f;
+      but =
+          record {
+            pose = getD (posesAt sc ys) i ground;
+            holds = e ∙ ap (λ (l : List (Pose Float)). allRows l (sc .rels)) (sym (set-getD (posesAt sc ys) i ground) ∙ d (getD (posesAt sc ys) i ground));
+          };
+    }
+
+pub near-as : (sc : Scene) (s : List Float) (p m i r rows : ℕ) (xs ys : List Float) → ys ≡ xs → Near sc s p m i r rows xs → Near sc s p m i r rows ys
+near-as sc s p m i r rows xs ys e g = subst (Near sc s p m i r rows) (sym e) g
+
+poses-set : (s : List Float) (q p m : ℕ) (v : Float) → q < p → posesIn (set s q v) p m ≡ posesIn s p m
+poses-set s q p m v h = poses-kept s (set s q v) q (q + 1) p m (omega arith) (kept-set s s q (q + 1) q v (omega arith) (omega arith) (kept-refl s q (q + 1)))
+
+-- ---- one column
+
+module _ (sc : Scene) (s : List Float) (n rows x y a b p m i c : ℕ) (c-in : c < n) (y-a : y + n ≤ a) (a-b : a + rows ≤ b) (b-p : b + rows ≤ p) (among : Among sc i c)
+    (same : part s y n ≡ part s x n) where
+  copy-set : (u : Float) → part (set s (y + c) u) y n ≡ set (part s x n) c u
+  copy-set u = part-set s y n c u c-in ∙ ap (λ (l : List Float). set l c u) same
+
+  pub first-near : (u : Float) → Near sc s p m i a rows (part s x n) → Near sc (set s (y + c) u) p m i a rows (part (set s (y + c) u) y n)
+  first-near u g =
+      near-as sc (set s (y + c) u) p m i a rows (set (part s x n) c u) (part (set s (y + c) u) y n) (copy-set u)
+      (near-moved sc s (set s (y + c) u) p m i a rows (part s x n) (set (part s x n) c u) (λ w. unknown-far sc i c (part s x n) u w among)
+      (λ w. ap (λ (l : List (Pose Float)). set l i w) (poses-set s (y + c) p m u (omega arith)) ∙ g .poses w)
+      (part-set-below s a rows (y + c) u (omega arith))
+      g)
+
+  module _ (s2 : List Float) (u : Float) (up : NearRows sc (set s (y + c) u) s2 y n a rows p m) where
+    copy-up : part s2 y n ≡ set (part s x n) c u
+    copy-up = part-same (set s (y + c) u) s2 y n (up .rows-at .size) (λ k l. up .rows-at .below (y + k) (omega arith)) ∙ copy-set u
+
+    copy-again : (u2 : Float) → part (set s2 (y + c) u2) y n ≡ set (part s x n) c u2
+    copy-again u2 = part-set s2 y n c u2 c-in ∙ ap (λ (l : List Float). set l c u2) copy-up ∙ set-set (part s x n) c u u2
+
+    poses-up : (w : Pose Float) → set (posesIn s2 p m) i w ≡ set (posesAt sc (part s x n)) i w
+    poses-up w = ap (λ (l : List (Pose Float)). set l i w) (up .poses ∙ ap (posesAt sc) (copy-set u)) ∙ unknown-far sc i c (part s x n) u w among
+
+    pub second-near : (u2 : Float) → Near sc s p m i b rows (part s x n) → Near sc (set s2 (y + c) u2) p m i b rows (part (set s2 (y + c) u2) y n)
+    second-near u2 g =
+        near-as sc (set s2 (y + c) u2) p m i b rows (set (part s x n) c u2) (part (set s2 (y + c) u2) y n) (copy-again u2)
+        (near-moved sc s (set s2 (y + c) u2) p m i b rows (part s x n) (set (part s x n) c u2) (λ w. unknown-far sc i c (part s x n) u2 w among)
+        (λ w. ap (λ (l : List (Pose Float)). set l i w) (poses-set s2 (y + c) p m u2 (omega arith)) ∙ poses-up w)
+        (part-set-below s2 b rows (y + c) u2 (omega arith)
+        ∙ part-same (set s (y + c) u) s2 b rows (up .rows-at .size) (λ k l. up .rows-at .between (b + k) (omega arith) (omega arith))
+        ∙ part-set-below s b rows (y + c) u (omega arith))
+        g)
+
+    module _ (s4 t : List Float) (u2 v : Float) (j : ℕ) (f : ℕ → Float) (j-a : j + rows * n ≤ a) (down : NearRows sc (set s2 (y + c) u2) s4 y n b rows p m)
+        (col : Column (set s4 (y + c) v) t j n rows c f) where
+      poses-end : (w : Pose Float) → set (posesIn t p m) i w ≡ set (posesAt sc (part s x n)) i w
+      poses-end w =
+          ap (λ (l : List (Pose Float)). set l i w)
+          (poses-kept (set s4 (y + c) v) t j (j + rows * n) p m (omega arith) (col .kept) ∙ poses-set s4 (y + c) p m v (omega arith) ∙ down .poses ∙ ap (posesAt sc) (copy-again u2))
+          ∙ unknown-far sc i c (part s x n) u2 w among
+
+      pub ahead-near : Near sc t p m i a rows (part s x n)
+      ahead-near =
+          near-made sc t p m i a rows (part s x n) (set (part s x n) c u) (λ w. unknown-far sc i c (part s x n) u w among) poses-end
+          (kept-part-above (set s4 (y + c) v) t j (j + rows * n) a rows j-a (col .kept) ∙ part-set-below s4 a rows (y + c) v (omega arith)
+          ∙ part-same (set s2 (y + c) u2) s4 a rows (down .rows-at .size) (λ k l. down .rows-at .below (a + k) (omega arith))
+          ∙ part-set-below s2 a rows (y + c) u2 (omega arith)
+          ∙ up .rows-at .holds
+          ∙ ap (rowsOf sc) (copy-set u))
+
+      pub behind-near : Near sc t p m i b rows (part s x n)
+      behind-near =
+          near-made sc t p m i b rows (part s x n) (set (part s x n) c u2) (λ w. unknown-far sc i c (part s x n) u2 w among) poses-end
+          (kept-part-above (set s4 (y + c) v) t j (j + rows * n) b rows (omega arith) (col .kept) ∙ part-set-below s4 b rows (y + c) v (omega arith) ∙ down .rows-at .holds
+          ∙ ap (rowsOf sc) (copy-again u2))
+
+-- ---- six columns
+
+pub columns-from-start : (sc : Scene) (s : List Float) (j n rows x a k : ℕ) → ColumnsFrom sc s s j n rows x a k (k + 0)
+columns-from-start sc s j n rows x a k =
+    record { size = refl; entries = λ i d h l m. absurd (omega arith); others = λ i d h l. refl; below = λ q h. refl; between = λ q h l. refl }
+
+-- the unknowns, and their copy, are as they were
+pub columns-from-part : (sc : Scene) (s t : List Float) (j n rows x a lo hi o : ℕ) → j + rows * n ≤ o → o + n ≤ a → ColumnsFrom sc s t j n rows x a lo hi → part t o n ≡ part s o n
+columns-from-part sc s t j n rows x a lo hi o h l g = part-same s t o n (g .size) (λ i m. g .between (o + i) (omega arith) (omega arith))
+
+pub columns-from-step : (sc : Scene) (s t u : List Float) (j n rows x a k e : ℕ) → k + e < n → j + rows * n ≤ x → x + n ≤ a → ColumnsFrom sc s t j n rows x a k (k + e)
+    → SlopeColumn sc t u j n rows x a (k + e) → ColumnsFrom sc s u j n rows x a k (k + (e + 1))
+columns-from-step sc s t u j n rows x a k e h l m g y =
+    record {
+      size = y .size ∙ g .size;
+      entries = entries;
+      others = λ i d w v. y .others i d w (omega arith) (λ q. absurd (omega arith)) ∙ g .others i d w v;
+      below = λ q w. y .below q w ∙ g .below q w;
+      between = λ q w v. y .between q w v ∙ g .between q w v;
+    }
+  where
+    entries : (i d : ℕ) → i < rows → k ≤ d → d < k + (e + 1) → getD u (j + (i * n + d)) nan ≡ slope (rowsOf sc) (part s x n) i d
+    entries i d w v r =
+        elim (ℕ-discrete d (k + e)) [
+          | yes f ↦
+              ap (λ (q : ℕ). getD u (j + (i * n + q)) nan) f ∙ y .entries i w
+              ∙ ap (λ (q : List Float). slope (rowsOf sc) q i (k + e)) (columns-from-part sc s t j n rows x a k (k + e) x l m g)
+              ∙ ap (slope (rowsOf sc) (part s x n) i) (sym f)
+          | no f ↦ y .others i d w (omega arith) f ∙ g .entries i d w v (omega arith)
+        ]
+
+pub near-part : (sc : Scene) (s t u : List Float) (j n rows x a lo hi p m i r : ℕ) → j + rows * n ≤ x → x + n ≤ a → ColumnsFrom sc s t j n rows x a lo hi
+    → Near sc u p m i r rows (part t x n) → Near sc u p m i r rows (part s x n)
+near-part sc s t u j n rows x a lo hi p m i r h l g y = subst (Near sc u p m i r rows) (columns-from-part sc s t j n rows x a lo hi x h l g) y
+
+pub columns-from-end : (sc : Scene) (s t : List Float) (j n rows x a k e : ℕ) → e ≡ 6 → ColumnsFrom sc s t j n rows x a k (k + e) → ColumnsFrom sc s t j n rows x a k (k + 6)
+columns-from-end sc s t j n rows x a k e f g = subst (λ (q : ℕ). ColumnsFrom sc s t j n rows x a k (k + q)) f g
+
+-- ---- a body put back
+
+pub standing-near : (sc : Scene) (s : List Float) (rows p m i r : ℕ) (xs : List Float) → posesIn s p m ≡ posesAt sc xs → part s r rows ≡ rowsOf sc xs → Near sc s p m i r rows xs
+standing-near sc s rows p m i r xs e f = near-made sc s p m i r rows xs xs (λ w. refl) (λ w. ap (λ (l : List (Pose Float)). set l i w) e) f
+
+module _ (sc : Scene) (s s1 s2 : List Float) (j n rows x y a b p m i k : ℕ) (j-x : j + rows * n ≤ x) (x-y : x + n ≤ y) (y-a : y + n ≤ a) (a-b : a + rows ≤ b) (b-p : b + rows ≤ p)
+    (k-n : k + 6 ≤ n) (same : part s y n ≡ part s x n) (six : SixColumns sc s s1 j n rows x a b p m i k) where
+  copy-six : part s1 y n ≡ part s x n
+  copy-six = columns-from-part sc s s1 j n rows x a k (k + 6) y (omega arith) (omega arith) (six .columns) ∙ same
+
+  pub six-near : Near sc s1 p m i a rows (part s1 y n)
+  six-near = near-as sc s1 p m i a rows (part s x n) (part s1 y n) copy-six (six .ahead)
+
+  module _ (first : NearRows sc s1 s2 y n a rows p m) where
+    copy-first : part s2 y n ≡ part s x n
+    copy-first = part-same s1 s2 y n (first .rows-at .size) (λ q l. first .rows-at .below (y + q) (omega arith)) ∙ copy-six
+
+    poses-first : posesIn s2 p m ≡ posesAt sc (part s x n)
+    poses-first = first .poses ∙ ap (posesAt sc) copy-six
+
+    pub back-near : Near sc s2 p m i b rows (part s2 y n)
+    back-near =
+        near-as sc s2 p m i b rows (part s x n) (part s2 y n) copy-first
+        (near-moved sc s1 s2 p m i b rows (part s x n) (part s x n) (λ w. refl) (λ w. ap (λ (l : List (Pose Float)). set l i w) poses-first)
+        (part-same s1 s2 b rows (first .rows-at .size) (λ q l. first .rows-at .between (b + q) (omega arith) (omega arith)))
+        (six .behind))
+
+    before-back : (t : List Float) → NearRows sc s2 t y n b rows p m → (q : ℕ) → q < a → getD t q nan ≡ getD s1 q nan
+    before-back t second q h = second .rows-at .below q (omega arith) ∙ first .rows-at .below q h
+
+    slope-place : (q d : ℕ) → q < rows → d < n → j + (q * n + d) < a
+    slope-place q d h l = let w = in-rows q d n rows h l in omega arith
+
+    pub body-columns-is : (t : List Float) → NearRows sc s2 t y n b rows p m → BodyColumns sc s t j n rows x a b p m k (k + 6)
+    body-columns-is t second =
+        record {
+          columns =
+              record {
+                size = second .rows-at .size ∙ first .rows-at .size ∙ six .columns .size;
+                entries = λ q d h l w. before-back t second (j + (q * n + d)) (slope-place q d h (omega arith)) ∙ six .columns .entries q d h l w;
+                others = λ q d h l. before-back t second (j + (q * n + d)) (slope-place q d h (omega arith)) ∙ six .columns .others q d h l;
+                below = λ q h. before-back t second q (omega arith) ∙ six .columns .below q h;
+                between = λ q h l. before-back t second q l ∙ six .columns .between q h l;
+              };
+          standing =
+              record {
+                poses = second .poses ∙ ap (posesAt sc) copy-first;
+                ahead = part-same s2 t a rows (second .rows-at .size) (λ q l. second .rows-at .below (a + q) (omega arith)) ∙ first .rows-at .holds ∙ ap (rowsOf sc) copy-six;
+                behind = second .rows-at .holds ∙ ap (rowsOf sc) copy-first;
+              };
+        }
+
+-- ---- a body with unknowns, and one without
+
+pub first-some : (sheet : List ℕ) (c : SceneStruct) (i k : ℕ) → Laid sheet c → i < c .m → getD (c .index) i 0 ≡ k → (k ≡ 0xFFFF → ⊥) → getD (layout (sceneOf sheet c)) i none ≡ some k
+unfolding firstUnknown
+first-some sheet c i k laid h e n = laid .index i h ∙ ap firstUnknown e ∙ rw (ne-eqb k 0xFFFF n)
+
+first-none : (sheet : List ℕ) (c : SceneStruct) (i : ℕ) → Laid sheet c → i < c .m → getD (c .index) i 0 ≡ 0xFFFF → getD (layout (sceneOf sheet c)) i none ≡ none
+unfolding firstUnknown
+first-none sheet c i laid h e = laid .index i h ∙ rw (eq-eqb (getD (c .index) i 0) 0xFFFF e)
+
+pub body-some : (sheet : List ℕ) (c : SceneStruct) (s t : List Float) (j x a b p i k : ℕ) → getD (layout (sceneOf sheet c)) i none ≡ some k
+    → BodyColumns (sceneOf sheet c) s t j (c .n) (c .rows) x a b p (c .m) k (k + 6)
+    → BodyColumns (sceneOf sheet c) s t j (c .n) (c .rows) x a b p (c .m) (given (sceneOf sheet c) i) (given (sceneOf sheet c) (i + 1))
+body-some sheet c s t j x a b p i k e g =
+    subst (λ (q : ℕ). BodyColumns (sceneOf sheet c) s t j (c .n) (c .rows) x a b p (c .m) (given (sceneOf sheet c) i) q) (given-next (sceneOf sheet c) i k e)
+    (subst (λ (q : ℕ). BodyColumns (sceneOf sheet c) s t j (c .n) (c .rows) x a b p (c .m) q (k + 6)) (given-first (sceneOf sheet c) i k e) g)
+
+pub body-none : (sheet : List ℕ) (c : SceneStruct) (s : List Float) (j x a b p i : ℕ) → Laid sheet c → i < c .m → getD (c .index) i 0 ≡ 0xFFFF
+    → Standing (sceneOf sheet c) s a b (c .rows) p (c .m) (part s x (c .n))
+    → BodyColumns (sceneOf sheet c) s s j (c .n) (c .rows) x a b p (c .m) (given (sceneOf sheet c) i) (given (sceneOf sheet c) (i + 1))
+body-none sheet c s j x a b p i laid h e g =
+    let w = given-still (sceneOf sheet c) i (first-none sheet c i laid h e) in
+    record {
+      columns = record { size = refl; entries = λ q d l k v. absurd (omega arith); others = λ q d l k. refl; below = λ q l. refl; between = λ q l k. refl };
+      standing = g;
+    }
+
+-- ---- the start
+
+pub started-is : (sheet : List ℕ) (c : SceneStruct) (s s1 s2 t : List Float) (x a b p : ℕ) → a + c .rows ≤ b → b + c .rows ≤ p
+    → Put s s1 p (12 * c .m) (posesDoubles (posesAt (sceneOf sheet c) (part s x (c .n))))
+    → Put s1 s2 a (c .rows) (allRows (posesIn s1 p (c .m)) (sceneOf sheet c .rels)) → Copied s2 t a b (c .rows)
+    → Started (sceneOf sheet c) s t x (c .n) a b (c .rows) p (c .m)
+started-is sheet c s s1 s2 t x a b p h l y z w =
+    let n : length (posesAt (sceneOf sheet c) (part s x (c .n))) ≡ c .m
+    = length-poses (part s x (c .n)) (sceneOf sheet c .bodies) (layout (sceneOf sheet c)) (length-layout (sceneOf sheet c .rels) 0 0 (sceneOf sheet c .bodies)) ∙ length-bodies sheet c in
+    let e = poses-there s1 p (12 * c .m) (posesAt (sceneOf sheet c) (part s x (c .n))) (y .holds) (ap (λ (v : ℕ). 12 * v) n) (c .m) n in
+    let f : part s2 a (c .rows) ≡ rowsOf (sceneOf sheet c) (part s x (c .n)) = z .holds ∙ ap (λ (q : List (Pose Float)). allRows q (sceneOf sheet c .rels)) e in
+    record {
+      size = w .kept .size ∙ z .kept .size ∙ y .kept .size;
+      standing =
+          record {
+            poses = poses-kept s2 t b (b + c .rows) p (c .m) l (w .kept) ∙ poses-kept s1 s2 a (a + c .rows) p (c .m) (omega arith) (z .kept) ∙ e;
+            ahead = kept-part-below s2 t b (b + c .rows) a (c .rows) h (w .kept) ∙ f;
+            behind = w .copy ∙ f;
+          };
+      below =
+          λ q k.
+          kept-at-below s2 t b (b + c .rows) q nan (omega arith) (w .kept) ∙ kept-at-below s1 s2 a (a + c .rows) q nan k (z .kept)
+          ∙ kept-at-below s s1 p (p + 12 * c .m) q nan (omega arith) (y .kept);
+    }
+
+-- ---- all bodies
+
+pub slopes-start : (sc : Scene) (s : List Float) (j n rows x a : ℕ) → Columns sc s s j n rows x a (given sc 0)
+unfolding unknownsIn
+slopes-start sc s j n rows x a = columns-start sc s j n rows x a
+
+pub started-part : (sc : Scene) (s t : List Float) (x n a b rows p m o k : ℕ) → o + k ≤ a → Started sc s t x n a b rows p m → part t o k ≡ part s o k
+started-part sc s t x n a b rows p m o k h g = part-same s t o k (g .size) (λ i l. g .below (o + i) (omega arith))
+
+-- the unknowns and their copy are the same, body after body
+pub copy-still : (sc : Scene) (s s1 t : List Float) (j n rows x y a b p m c : ℕ) → j + rows * n ≤ x → x + n ≤ y → y + n ≤ a → Started sc s s1 x n a b rows p m
+    → Columns sc s1 t j n rows x a c → part s y n ≡ part s x n → part t y n ≡ part t x n
+copy-still sc s s1 t j n rows x y a b p m c h l k st g e =
+    columns-part sc s1 t j n rows x a c y (omega arith) (omega arith) g ∙ started-part sc s s1 x n a b rows p m y n (omega arith) st ∙ e
+    ∙ sym (columns-part sc s1 t j n rows x a c x (omega arith) (omega arith) g ∙ started-part sc s s1 x n a b rows p m x n (omega arith) st)
+
+pub slopes-from : (sc : Scene) (s s1 t : List Float) (j n rows x a b p m c : ℕ) → j ≤ a → x + n ≤ a → Started sc s s1 x n a b rows p m → Columns sc s1 t j n rows x a c → Columns sc s t j n rows x a c
+slopes-from sc s s1 t j n rows x a b p m c h l st g =
+    record {
+      size = g .size ∙ st .size;
+      entries = λ i d k w. g .entries i d k w ∙ ap (λ (q : List Float). slope (rowsOf sc) q i d) (started-part sc s s1 x n a b rows p m x n l st);
+      below = λ q k. g .below q k ∙ st .below q (omega arith);
+      between = λ q k w. g .between q k w ∙ st .below q w;
+    }
+
+pub slopes-step : (sc : Scene) (s t u : List Float) (j n rows x a lo hi : ℕ) → part t x n ≡ part s x n → ColumnsFrom sc t u j n rows x a lo hi → Columns sc s t j n rows x a lo → Columns sc s u j n rows x a hi
+slopes-step sc s t u j n rows x a lo hi e y g =
+    record {
+      size = y .size ∙ g .size;
+      entries = entries;
+      below = λ q l. y .below q l ∙ g .below q l;
+      between = λ q l k. y .between q l k ∙ g .between q l k;
+    }
+  where
+    entries : (i d : ℕ) → i < rows → d < hi → getD u (j + (i * n + d)) nan ≡ slope (rowsOf sc) (part s x n) i d
+    entries i d h l = go (decLt d lo)
+      where
+        go : Dec (d < lo) → getD u (j + (i * n + d)) nan ≡ slope (rowsOf sc) (part s x n) i d
+        go (yes k) = y .others i d h k ∙ g .entries i d h k
+        go (no k) = y .entries i d h (omega arith) l ∙ ap (λ (q : List Float). slope (rowsOf sc) q i d) e
+
+pub standing-as : (sc : Scene) (s : List Float) (a b rows p m : ℕ) (xs ys : List Float) → ys ≡ xs → Standing sc s a b rows p m xs → Standing sc s a b rows p m ys
+standing-as sc s a b rows p m xs ys e g = subst (Standing sc s a b rows p m) (sym e) g
+
+-- ---- what single functions need
+
+pub count-is : (sheet : List ℕ) (c : SceneStruct) (poses : List (Pose Float)) (j q : ℕ)
+    → q ≡ rowCount (relAt sheet (c .rels + 264 * j) .law) (relAt sheet (c .rels + 264 * j) .a .prim) (relAt sheet (c .rels + 264 * j) .b .prim) → q ≡ length (relRows sheet c poses j)
+count-is sheet c poses j q e = e ∙ sym (residual-length _ _ _ _ _ _)
+
+pub near-column-is : (sc : Scene) (s s2 s4 t : List Float) (j n rows x y a b p m i c : ℕ) (v h : Float) → c < n → j + rows * n ≤ x → x + n ≤ y → y + n ≤ a → a + rows ≤ b → b + rows ≤ p
+    → p ≤ length s
+    → Among sc i c → part s y n ≡ part s x n → v ≡ getD s (x + c) nan → h ≡ stepOf v → NearRows sc (set s (y + c) (add binary64 v h)) s2 y n a rows p m
+    → NearRows sc (set s2 (y + c) (sub binary64 v h)) s4 y n b rows p m
+    → Column (set s4 (y + c) v) t j n rows c (λ k. slopeOf (getD (set s4 (y + c) v) (a + k) nan) (getD (set s4 (y + c) v) (b + k) nan) h)
+    → NearColumn sc s t j n rows x a b p m i c
+near-column-is sc s s2 s4 t j n rows x y a b p m i c v h c-in j-x x-y y-a a-b b-p p-s among same v-is h-is up down col =
+    let j-a : j + rows * n ≤ a = omega arith in
+    record {
+      column = slope-column-is sc s s2 s4 t j n rows x y a b p c v h c-in j-x x-y y-a a-b b-p p-s same v-is h-is (up .rows-at) (down .rows-at) col;
+      ahead = ahead-near sc s n rows x y a b p m i c c-in y-a a-b b-p among same s2 (add binary64 v h) up s4 t (sub binary64 v h) v j _ j-a down col;
+      behind = behind-near sc s n rows x y a b p m i c c-in y-a a-b b-p among same s2 (add binary64 v h) up s4 t (sub binary64 v h) v j _ j-a down col;
+    }

@@ -1,0 +1,35 @@
+-- `slopes::near_slopes::near_rows` meets its contract. Assumes nothing.
+use mathlib.Core.Path.{_∙_}
+use native.Mathlib.Omega.{arith}
+use Rattle.slopes.proofs.NearLaws.{near-but, near-rows-is}
+use Rattle.slopes.proofs.near_slopes.near_rows.Statement.{statement}
+use Rattle.slopes.proofs.near_slopes.near_rows.Tie as tie
+
+mul-put-body : tie.Need-mul-put-body
+mul-put-body c = omega arith
+
+add-put-body : tie.Need-add-put-body
+add-put-body c = omega arith
+
+put-body-requires : tie.Need-put-body-requires
+put-body-requires c κs = (c .before .before .before .pre .0, (omega arith, (omega arith, omega arith)))
+
+refresh-requires : tie.Need-refresh-requires
+refresh-requires c κs =
+    let g = c .before .before .before .before .before .before .before .args in
+    let y = c .before .before .before .put-body .ensures in
+    let z = y .kept .size in (
+      c .before .before .before .before .before .before .before .pre .0,
+      (omega arith, (omega arith, near-but (g .sheet .now) (g .scene) (g .s .now) _ (g .y) (g .r) (g .p) (g .i) (c .before .before .before .before .before .before .before .pre .0) (c .before .before .before .before .before .before .before .pre .1 .0) (c .before .before .before .before .before .before .before .pre .1 .1 .1 .0) (c .before .before .before .before .before .before .before .pre .1 .1 .1 .1 .1) y)),
+    )
+
+same-length : tie.Need-same-length
+same-length c = c .before .before .refresh .ensures .kept .size ∙ c .before .before .before .before .before .before .put-body .ensures .kept .size
+
+returns : tie.Need-returns
+returns c =
+    let g = c .before .before .before .before .before .before .before .before .before .before .args in
+    near-rows-is (g .sheet .now) (g .scene) (g .s .now) _ (g .y) (g .r) (g .p) (g .i) (c .before .before .before .before .before .before .before .before .before .before .pre .0) (c .before .before .before .before .before .before .before .before .before .before .pre .1 .0) (c .before .before .before .before .before .before .before .before .before .before .pre .1 .1 .1 .0) (c .before .before .before .before .before .before .before .before .before .before .pre .1 .1 .1 .1 .1) (c .before .before .before .before .before .before .put-body .ensures) _ (c .before .before .refresh .ensures)
+
+pub near-rows-spec : {M : Type 1} → statement M
+near-rows-spec = tie.close (tie.spec mul-put-body add-put-body put-body-requires refresh-requires same-length returns)

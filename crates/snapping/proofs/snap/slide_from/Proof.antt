@@ -1,0 +1,19 @@
+-- `snapping::snap::slide_from` meets its contract. Assumes nothing.
+use Rattle.relations.proofs.Values.{vec-is}
+use Rattle.snapping.proofs.snap.slide_from.Statement.{statement}
+use Rattle.snapping.proofs.snap.slide_from.Tie as tie
+
+sub-requires : tie.Need-sub-requires
+sub-requires c κs = tt
+
+dot-requires : tie.Need-dot-requires
+dot-requires c κs = tt
+
+scale-requires : tie.Need-scale-requires
+scale-requires c κs = tt
+
+returns : tie.Need-returns
+returns c = rw (vec-is (c .scale .ensures), c .before .dot .ensures, vec-is (c .before .before .sub .ensures))
+
+pub slide-from-spec : {M : Type 1} → statement M
+slide-from-spec = tie.close (tie.spec sub-requires dot-requires scale-requires returns)

@@ -1,9 +1,0 @@
-pub mod Values
-pub mod MemoryLaws
-pub mod TableLaws
-pub mod RecordLaws
-pub mod LmLaws
-pub mod DenseLaws
-pub mod SceneLaws
-pub mod SlopeLaws
-pub mod LayoutLaws

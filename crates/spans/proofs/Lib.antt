@@ -1,0 +1,3 @@
+pub mod Flat
+pub mod Eigen6Laws
+pub mod SpanLaws

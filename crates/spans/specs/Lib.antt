@@ -1,0 +1,5 @@
+pub mod Flat
+pub mod Eigen6
+pub mod Span
+pub mod Basis
+pub mod Sorted
