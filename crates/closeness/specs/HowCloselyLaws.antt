@@ -1,6 +1,6 @@
 -- How closely every answer of `solve` meets its relations, and the end of its work. A run's rows are at every step those of its unknowns, so `converged` tells of the
 -- poses that are filled in; the largest magnitude of rows laid end to end is within the tolerance where that of each part is; a body without unknowns keeps the pose of
--- its frame; the bound on the errors is the solver's row bound. Assumes nothing.
+-- its frame; the bound on the errors is the row bound. Assumes nothing.
 use Prim.Native.Nat.{ℕ, zero, suc, _+_, _*_, _≤_, _<_}
 use native.Mathlib.Nat.{le-of-lt, le-of-eq, not-suc-le-zero, le-of-suc-le-suc}
 use native.Mathlib.Omega.{arith}

@@ -73,3 +73,17 @@ pub sheet-records : (s : List ℕ) (h m k b r w : ℕ) → h ≡ headerFault s �
     → b ≡ bodiesFault s m → r ≡ relsFault s k → w ≡ orElse b r → w ≡ sheetFault s
 unfolding sheetFault
 sheet-records s h m k b r w eh z em ek eb er ew = let e : headerFault s ≡ 0 = sym eh ∙ z in rw (ew, eb, er, em, ek, e)
+
+-- ---- one test after another
+
+-- a test's number is that of the first of two
+pub later : (t a b f w : ℕ) → t ≡ orElse a b → f ≡ a → f ≡ 0 → w ≡ b → w ≡ t
+later t a b f w p q z e = let h : a ≡ 0 = sym q ∙ z in rw (e, p, h)
+
+pub first : (t a b f : ℕ) → t ≡ orElse a b → f ≡ a → (f ≡ 0 → ⊥) → f ≡ t
+first t a b f p q ne = rw (p, ← q) (or-else-first f b ne)
+
+-- a sheet that passes is as long as its header says
+pub sheet-passes : (s : List ℕ) → sheetFault s ≡ 0 → Sized s
+unfolding sheetFault
+sheet-passes s h = header-passes s (none-of (headerFault s) (orElse (bodiesFault s (bodiesOf s)) (relsFault s (relationsOf s))) h .0)

@@ -1,12 +1,11 @@
--- The freedoms of the bodies one after another, to the front of a slice. By the solver's laws of lists that grow piece by piece. Assumes nothing.
+-- The freedoms of the bodies one after another, to the front of a slice. By scene's laws of lists that grow piece by piece. Assumes nothing.
 use Prim.Native.Nat.{ℕ, suc, _+_, _-_, _*_, _≤_, _<_}
 use mathlib.Core.Path.{_≡_, refl, sym, ap, subst, _∙_}
 use mathlib.Core.Bool.{Bool, true, false, cond, not, _&&_}
 use mathlib.Core.List.{List, [], _∷_, _++_}
 use native.Mathlib.Omega.{arith}
 use native.Mathlib.Numerals.{add-one}
-use lib.ListN.{length, take, drop, length-drop}
-use lib.Seq.{take-add, take-all}
+use lib.ListN.{length, drop}
 use lib.Ieee.{Float}
 use Rattle.spans.specs.Flat.{flat}
 use Rattle.relations.specs.Model.{Body, Rel}
@@ -16,7 +15,7 @@ use Rattle.scene.specs.Scene.{Put, sceneOf, posesIn, posesDoubles}
 use Rattle.scene.specs.Solve.{Scene, moves, unknowns, halfSize}
 use Rattle.body_freedom.specs.Dof.{Freedom, bodyDof, bodyRows, zeros, freedomOf, freedomsFrom, unnamedFrom, totalFreedom, dof}
 use Rattle.scene.specs.declared.scene.Scene.{Scene as SceneStruct}
-use Rattle.scene.proofs.SceneLaws.{Growing, growing-start, growing-step, growing-end, bodies-next, length-bodies, drop-whole}
+use Rattle.scene.proofs.SceneLaws.{Growing, growing-start, growing-step, growing-end, bodies-next, length-bodies, drop-whole, put-front}
 use Rattle.body_freedom.specs.Layout.{freedomDoubles, freedomsDoubles}
 use Rattle.body_freedom.specs.BodyFreedom.{fromSquare, freedomStruct}
 use Rattle.body_freedom.specs.BodySlopes.{starts, BodySquare}
@@ -108,16 +107,6 @@ one-passed sheet c s t u d e g p i h x y =
       poses = y .poses;
       filled = growing-step d e g 0 (29 * i) (29 * i) 29 (29 * (i + 1)) _ _ _ _ (omega arith) (omega arith) (rest-next sheet c i h) (x .filled) (y .filled);
     }
-
--- a list at the front of a slice: the rest is as it was
-put-front : (s t : List Float) (k : ℕ) (l : List Float) → Put s t 0 k l → t ≡ l ++ drop k s
-put-front s t k l y =
-    let e : 0 + k ≡ k = omega arith in
-    let a : drop k t ≡ drop k s = subst (λ (w : ℕ). drop w t ≡ drop w s) e (y .kept .above) in
-    let h : length t ≤ k + (length t - k) = omega arith in
-    let r : length (drop k t) ≤ length t - k = simp length-drop (omega arith) in
-    sym (take-all (k + (length t - k)) t h) ∙ take-add k (length t - k) t ∙ ap (λ (w : List Float). take k t ++ w) (take-all (length t - k) (drop k t) r ∙ a)
-    ∙ ap (λ (w : List Float). w ++ drop k s) (y .holds)
 
 pub all-passed : (sheet : List ℕ) (c : SceneStruct) (r s t u d e : List Float) (p i total : ℕ) → c .m ≤ i → length s ≡ length r → Passed sheet c s t d e p i
     → (total ≡ totalFreedom (sceneOf sheet c)) × (length u ≡ length t) → Freed (sceneOf sheet c) (c .m) r u d e total

@@ -7,13 +7,12 @@ use Prim.Native.Nat.{ℕ, zero, suc, _+_, _*_, _-_, _≤_, _<_}
 use native.Mathlib.Omega.{arith}
 use native.Mathlib.Numerals.{add-one}
 use borrow.Author.Tests.{eq-eqb, ne-eqb}
-use lib.ListN.{length, getD, set, take, drop, length-set, length-take, length-drop}
-use lib.Seq.{take-suc, take-add, take-all, getD-drop, getD-take, ext-getD}
+use lib.ListN.{length, getD, set, take, drop, length-take, length-drop}
+use lib.Seq.{take-suc, getD-drop, getD-take, ext-getD}
 use lib.Dec.{eqb}
 use lib.Ieee.{Float, nan, lt}
 use Rattle.numbers.specs.MaxAbs.{maxAbs}
 use Rattle.vectors.specs.Tol.{ASSEMBLY}
-use Rattle.vectors.specs.Vec.{Vec}
 use Rattle.vectors.specs.Space.{Frame}
 use Rattle.vectors.specs.Math.{frameOf}
 use Rattle.relations.specs.Geometry.{Pose, frameOr}
@@ -24,7 +23,7 @@ use Rattle.least_squares.specs.Memory.{part}
 use Rattle.records.specs.Record.{bodyAt, relAt}
 use Rattle.scene.specs.Scene.{sceneIn}
 use Rattle.relations.specs.Rows as Rows
-use Rattle.scene.specs.Scene.{Put, RowsAt, sceneOf, vecDoubles, poseIn, posesIn, posesDoubles, relRows}
+use Rattle.scene.specs.Scene.{Put, RowsAt, sceneOf, poseIn, posesIn, posesDoubles, relRows}
 use Rattle.scene.specs.Solve.{Scene, layout, unknowns, posesAt, rowsAt, rowsOf, weights, startAt, slightTurn, MAX-ITER, runFrom, better, solved, solve, frameAt, framesFrom}
 use Rattle.judging.specs.CountLaws.{rows-packed}
 use Rattle.relations.specs.declared.rows.Rows.{Rows as RowsStruct}
@@ -57,46 +56,6 @@ pub part-more : (s : List Float) (o i : ℕ) (d : Float) → o + i < length s �
 part-more s o i d h =
     let l : i < length (drop o s) = simp length-drop (omega arith) in
     ap (λ (w : Float). take i (drop o s) ++ (w ∷ [])) (sym (getD-drop o s i d)) ∙ sym (take-suc (drop o s) i d l) ∙ ap (λ (w : ℕ). take w (drop o s)) (sym (add-one i))
-
--- a list at the front of a slice: the rest is as it was
-pub put-front : (s t : List Float) (k : ℕ) (l : List Float) → Put s t 0 k l → t ≡ l ++ drop k s
-put-front s t k l y =
-    let e : 0 + k ≡ k = omega arith in
-    let a : drop k t ≡ drop k s = subst (λ (w : ℕ). drop w t ≡ drop w s) e (y .kept .above) in
-    let h : length t ≤ k + (length t - k) = omega arith in
-    let r : length (drop k t) ≤ length t - k = simp length-drop (omega arith) in
-    sym (take-all (k + (length t - k)) t h) ∙ take-add k (length t - k) t ∙ ap (λ (w : List Float). take k t ++ w) (take-all (length t - k) (drop k t) r ∙ a)
-    ∙ ap (λ (w : List Float). w ++ drop k s) (y .holds)
-
--- three doubles at o, q and r
-abbrev pub set-three : List Float → ℕ → ℕ → ℕ → Vec Float → List Float
-set-three s o q r v = set (set (set s o (v .x)) q (v .y)) r (v .z)
-
-put-three : (s : List Float) (o q r : ℕ) (v : Vec Float) → q ≡ o + 1 → r ≡ o + 2 → o + 3 ≤ length s → Put s (set-three s o q r v) o 3 (vecDoubles v)
-put-three s o q r v e f h =
-    put-then s _ _ o 2 r 1 _ _ f (put-then s _ _ o 1 q 1 _ _ e (put-one s o (v .x) (omega arith)) (put-one _ q (v .y) (simp length-set (omega arith))))
-    (put-one _ r (v .z) (simp length-set (omega arith)))
-
--- a frame, double by double
-pub put-frame-is : (s : List Float) (o : ℕ) (f : Frame) → o + 12 ≤ length s
-    → Put s
-    (set-three (set-three (set-three (set-three s o (o + 1) (o + 2) (f .origin)) (o + 3) (o + 4) (o + 5) (f .x)) (o + 6) (o + 7) (o + 8) (f .y)) (o + 9) (o + 10) (o + 11) (f .z))
-    o
-    12
-    (frameDoubles f)
-put-frame-is s o f h =
-    let s1 = set-three s o (o + 1) (o + 2) (f .origin) in
-    let s2 = set-three s1 (o + 3) (o + 4) (o + 5) (f .x) in
-    let s3 = set-three s2 (o + 6) (o + 7) (o + 8) (f .y) in
-    let s4 = set-three s3 (o + 9) (o + 10) (o + 11) (f .z) in
-    let a : Put s s1 o 3 (vecDoubles (f .origin)) = put-three s o (o + 1) (o + 2) (f .origin) refl refl (omega arith) in
-    let l : length s1 ≡ length s = a .kept .size in
-    let b : Put s1 s2 (o + 3) 3 (vecDoubles (f .x)) = put-three s1 (o + 3) (o + 4) (o + 5) (f .x) (omega arith) (omega arith) (omega arith) in
-    let m : length s2 ≡ length s1 = b .kept .size in
-    let c : Put s2 s3 (o + 6) 3 (vecDoubles (f .y)) = put-three s2 (o + 6) (o + 7) (o + 8) (f .y) (omega arith) (omega arith) (omega arith) in
-    let n : length s3 ≡ length s2 = c .kept .size in
-    let d : Put s3 s4 (o + 9) 3 (vecDoubles (f .z)) = put-three s3 (o + 9) (o + 10) (o + 11) (f .z) (omega arith) (omega arith) (omega arith) in
-    put-then s s3 s4 o 9 (o + 9) 3 _ _ refl (put-then s s2 s3 o 6 (o + 6) 3 _ _ refl (put-then s s1 s2 o 3 (o + 3) 3 _ _ refl a b) c) d
 
 -- ---- errors
 

@@ -1,4 +1,4 @@
-// solve.rs, `solve`: the first run, the retry from a slight turn, poses, frames and errors. The solver's `specs/Solve.antt` has the definitions, `specs/Answer.antt` what
+// solve.rs, `solve`: the first run, the retry from a slight turn, poses, frames and errors. scene's `specs/Solve.antt` has the definitions, `specs/Answer.antt` what
 // stands in the slices.
 
 ghost use mathlib.Core.Path.{_≡_};
@@ -31,6 +31,7 @@ use scene::scene::Scene;
 use scene::scene::inverse_weights;
 use scene::scene::pose_at;
 use scene::scene::poses_at;
+use scene::scene::put_vec;
 use scene::scene::rel_rows;
 use scene::scene::rows_at;
 use vectors::math::frame_of;
@@ -144,18 +145,10 @@ fn put_frame(d: &mut [f64], o: usize, f: Frame)
     let x = f.x;
     let y = f.y;
     let z = f.z;
-    d[o] = origin.x;
-    d[o + 1] = origin.y;
-    d[o + 2] = origin.z;
-    d[o + 3] = x.x;
-    d[o + 4] = x.y;
-    d[o + 5] = x.z;
-    d[o + 6] = y.x;
-    d[o + 7] = y.y;
-    d[o + 8] = y.z;
-    d[o + 9] = z.x;
-    d[o + 10] = z.y;
-    d[o + 11] = z.z;
+    put_vec(d, o, origin);
+    put_vec(d, o + 3, x);
+    put_vec(d, o + 6, y);
+    put_vec(d, o + 9, z);
 }
 
 // Each body's frame at the poses from p on, squared anew; the body's own where none can be built.

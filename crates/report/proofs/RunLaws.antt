@@ -12,13 +12,13 @@ use borrow.Author.Tests.{eq-eqb, ne-eqb}
 use Rattle.body_freedom.specs.Layout.{freedomsDoubles}
 use Rattle.format.specs.Format.{bodiesOf, relationsOf}
 use Rattle.format.specs.Faults.{sheetFault}
-use Rattle.sheet.specs.Refusals.{solveFault, dofFault}
+use Rattle.refusals.specs.Refusals.{solveFault, dofFault}
 use Rattle.sheet.specs.Solving.{flagOf, solutionOf, SolveAnswer}
 use Rattle.sheet.specs.Freedoms.{freedomsOf, DofAnswer}
-use Rattle.sheet.proofs.CallLaws.{first, later}
-use Rattle.sheet.proofs.NumberLaws.{solve-le, dof-le}
+use Rattle.format.proofs.RefusalLaws.{first, later}
+use Rattle.refusals.proofs.NumberLaws.{solve-le, dof-le}
 use Rattle.sheet.proofs.FreedomLaws.{accepted, whole-few}
-use Rattle.sheet.proofs.FigureLaws.{counted}
+use Rattle.refusals.proofs.FigureLaws.{counted}
 use Rattle.report.specs.Report.{relationLine, bodyLine, lines, relationLines, bodyLines, answerText, refusedText, Put}
 use Rattle.report.specs.ReportOf.{numberOf, answerOf, reportOf}
 

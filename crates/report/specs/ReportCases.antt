@@ -7,7 +7,7 @@ use lib.ListN.{replicate}
 use lib.Ieee.{nan, inf, binary64, ofBits, toBits, eq, size}
 use Rattle.numbers.specs.Double.{zero64}
 use Rattle.format.specs.Faults.{headerFault, sheetFault}
-use Rattle.sheet.specs.Refusals.{solveFault}
+use Rattle.refusals.specs.Refusals.{solveFault}
 use Rattle.report.specs.Report.{answerText, refusedText, relationLine, bodyLine, decimal, bitsText, digits, placesIn, countDigit, lines}
 use Rattle.report.specs.ReportOf.{numberOf, reportOf}
 

@@ -7,7 +7,7 @@ use lib.Dec.{eqb}
 use Rattle.body_freedom.specs.Layout.{freedomsDoubles}
 use Rattle.format.specs.Format.{bodiesOf, relationsOf}
 use Rattle.format.specs.Faults.{orElse}
-use Rattle.sheet.specs.Refusals.{solveFault, dofFault}
+use Rattle.refusals.specs.Refusals.{solveFault, dofFault}
 use Rattle.sheet.specs.Solving.{solutionOf}
 use Rattle.sheet.specs.Freedoms.{freedomsOf}
 use Rattle.report.specs.Report.{answerText, refusedText}

@@ -1,4 +1,4 @@
--- What one trial leaves in the lent scratch, step by step. By the solver's laws on parts of the scratch. Assumes nothing.
+-- What one trial leaves in the lent scratch, step by step. By least_squares' laws on parts of the scratch. Assumes nothing.
 use mathlib.Core.Path.{_≡_, refl, sym, ap, _∙_}
 use mathlib.Core.Bool.{Bool, true, false, _&&_}
 use mathlib.Core.List.{List, [], _∷_, _++_}

@@ -1,5 +1,5 @@
 -- What the rounds of lm.rs leave in the lent scratch: a state's unknowns stand at `x`, its rows at `rows`; its cost and damping go by value. s is the scratch at entry
--- and t at exit. specs/Lm.antt of the solver has what is computed. Definitions only.
+-- and t at exit. least_squares' specs/Lm.antt has what is computed. Definitions only.
 use Prim.Native.Nat.{ℕ, _+_, _*_, _≤_, _<_}
 use mathlib.Core.Path.{_≡_}
 use mathlib.Core.Bool.{Bool}

@@ -10,7 +10,7 @@ use native.Mathlib.Numerals.{add-one}
 use borrow.Author.Tests.{eq-eqb, ne-eqb}
 use native.Mathlib.Nat.{not-suc-le-zero, le-of-suc-le-suc}
 use lib.ListN.{length, getD, set, take, drop, length-set, length-take, length-drop, length-append, List·getD-append, List·getD-eq-default}
-use lib.Seq.{take-add, drop-drop, drop-cons, drop-length, take-suc, take-suc-set, take-set-le, drop-set-lt, getD-append-add, ext-getD}
+use lib.Seq.{take-add, take-all, drop-drop, drop-cons, drop-length, take-suc, take-suc-set, take-set-le, drop-set-lt, getD-append-add, ext-getD}
 use lib.Ieee.{Float, nan}
 use Rattle.vectors.specs.Vec.{Vec}
 use Rattle.relations.specs.Geometry.{Pose}
@@ -52,6 +52,16 @@ put-then s t u o j q k a b e x y =
           kept-trans s t u o (o + (j + k)) (kept-wider s t o (o + j) o (o + (j + k)) (omega arith) (omega arith) (x .kept))
           (kept-wider t u (o + j) (o + j + k) o (o + (j + k)) (omega arith) (omega arith) w);
     }
+
+-- a list at the front of a slice: the rest is as it was
+pub put-front : (s t : List Float) (k : ℕ) (l : List Float) → Put s t 0 k l → t ≡ l ++ drop k s
+put-front s t k l y =
+    let e : 0 + k ≡ k = omega arith in
+    let a : drop k t ≡ drop k s = subst (λ (w : ℕ). drop w t ≡ drop w s) e (y .kept .above) in
+    let h : length t ≤ k + (length t - k) = omega arith in
+    let r : length (drop k t) ≤ length t - k = simp length-drop (omega arith) in
+    sym (take-all (k + (length t - k)) t h) ∙ take-add k (length t - k) t ∙ ap (λ (w : List Float). take k t ++ w) (take-all (length t - k) (drop k t) r ∙ a)
+    ∙ ap (λ (w : List Float). w ++ drop k s) (y .holds)
 
 -- j doubles from p on are written, `rest` is to follow, and together they are `whole`
 pub record Growing (s t : List Float) (p j : ℕ) (rest whole : List Float) : Type 0 where

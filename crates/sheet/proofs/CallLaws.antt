@@ -1,12 +1,12 @@
--- The calls from their parts: the tests of a call one after another, and twelve doubles written from the front. Assumes nothing.
+-- The calls from their parts: the tests of a call one after another, and what it makes of the sheet's frames. Assumes nothing.
 use mathlib.Core.Path.{_≡_, refl, sym, _∙_}
 use mathlib.Core.Bool.{Bool, true, false, cond}
-use mathlib.Core.List.{List, [], _∷_, _++_}
+use mathlib.Core.List.{List, _++_}
 use mathlib.Core.Option.{some}
-use Prim.Native.Nat.{ℕ, zero, suc, _+_, _*_, _<_, _≤_}
+use Prim.Native.Nat.{ℕ, zero, suc, _+_, _<_, _≤_}
 use native.Mathlib.Omega.{arith}
-use lib.ListN.{length, drop, set}
-use lib.Dec.{eqb, leb, ltb}
+use lib.ListN.{length, drop}
+use lib.Dec.{leb, ltb}
 use lib.Ieee.{Float}
 use borrow.Author.Tests.{ltb-true, lt-ltb, le-ltb, le-leb, lt-leb, ne-eqb}
 use Rattle.vectors.specs.Vec.{Vec, zeroV}
@@ -15,21 +15,15 @@ use Rattle.relations.specs.Model.{Body, Rel, poseOfFrame}
 use Rattle.relations.specs.Rows.{ground}
 use Rattle.judging.specs.Judge.{Reading, judge, jointReading}
 use Rattle.snapping.specs.Snap.{Motion, snap}
+use Rattle.scene.specs.Scene.{poseDoubles}
 use Rattle.records.specs.Record.{bodyAt}
 use Rattle.format.specs.Format.{bodiesOf, relationsOf, bodyStart, relStart}
-use Rattle.format.specs.Faults.{orElse, unless, headerFault, bodiesFault, relsFault, sheetFault}
-use Rattle.sheet.specs.Refusals.{relationFault, judgeFault, readingFault, snapFault}
-use Rattle.sheet.specs.Calls.{relationOf, poseIn, centerIn, readingOf, motionOf, poseDoubles, readingAfter, motionAfter}
-use Rattle.format.proofs.RefusalLaws.{Sized, header-passes, or-else-first, none-of}
+use Rattle.format.specs.Faults.{orElse, unless, sheetFault}
+use Rattle.refusals.specs.Refusals.{relationFault, judgeFault, readingFault, snapFault}
+use Rattle.sheet.specs.Calls.{relationOf, poseIn, centerIn, readingOf, motionOf, readingAfter, motionAfter}
+use Rattle.format.proofs.RefusalLaws.{none-of, sheet-passes}
 
 -- ---- one test after another
-
--- a test's number is that of the first of two
-pub later : (t a b f w : ℕ) → t ≡ orElse a b → f ≡ a → f ≡ 0 → w ≡ b → w ≡ t
-later t a b f w p q z e = let h : a ≡ 0 = sym q ∙ z in rw (e, p, h)
-
-pub first : (t a b f : ℕ) → t ≡ orElse a b → f ≡ a → (f ≡ 0 → ⊥) → f ≡ t
-first t a b f p q ne = rw (p, ← q) (or-else-first f b ne)
 
 or-else-assoc : (a b c : ℕ) → orElse a (orElse b c) ≡ orElse (orElse a b) c
 or-else-assoc zero b c = refl
@@ -48,10 +42,6 @@ unfolding snapFault readingFault
 snap-parts s j n = or-else-assoc (sheetFault s) (relationFault s j) (unless (leb 12 n) 10)
 
 -- ---- what passing says of the sheet
-
-pub sheet-passes : (s : List ℕ) → sheetFault s ≡ 0 → Sized s
-unfolding sheetFault
-sheet-passes s h = header-passes s (none-of (headerFault s) (orElse (bodiesFault s (bodiesOf s)) (relsFault s (relationsOf s))) h .0)
 
 found : (t : Bool) → _≡_ {A = ℕ} (cond t 0 13) 0 → t ≡ true
 found true h = refl
@@ -129,19 +119,3 @@ motion-done s j before after m q em e = let h : snapFault s j (length before) �
 pub motion-kept : (s : List ℕ) (j f : ℕ) (before : List Float) → f ≡ snapFault s j (length before) → (f ≡ 0 → ⊥) → before ≡ motionAfter s j before
 unfolding motionAfter
 motion-kept s j f before q ne = rw (ne-eqb (snapFault s j (length before)) 0 (λ z. ne (q ∙ z)))
-
-pub twelve : (l : List Float) (v0 v1 v2 v3 v4 v5 v6 v7 v8 v9 v10 v11 : Float) → 12 ≤ length l
-    → set (set (set (set (set (set (set (set (set (set (set (set l 0 v0) 1 v1) 2 v2) 3 v3) 4 v4) 5 v5) 6 v6) 7 v7) 8 v8) 9 v9) 10 v10) 11 v11 ≡ v0 ∷ v1 ∷ v2 ∷ v3 ∷ v4 ∷ v5 ∷ v6 ∷ v7 ∷ v8 ∷ v9 ∷ v10 ∷ v11 ∷ drop 12 l
-twelve [] v0 v1 v2 v3 v4 v5 v6 v7 v8 v9 v10 v11 h = absurd (omega arith)
-twelve (x0 ∷ []) v0 v1 v2 v3 v4 v5 v6 v7 v8 v9 v10 v11 h = absurd (omega arith)
-twelve (x0 ∷ x1 ∷ []) v0 v1 v2 v3 v4 v5 v6 v7 v8 v9 v10 v11 h = absurd (omega arith)
-twelve (x0 ∷ x1 ∷ x2 ∷ []) v0 v1 v2 v3 v4 v5 v6 v7 v8 v9 v10 v11 h = absurd (omega arith)
-twelve (x0 ∷ x1 ∷ x2 ∷ x3 ∷ []) v0 v1 v2 v3 v4 v5 v6 v7 v8 v9 v10 v11 h = absurd (omega arith)
-twelve (x0 ∷ x1 ∷ x2 ∷ x3 ∷ x4 ∷ []) v0 v1 v2 v3 v4 v5 v6 v7 v8 v9 v10 v11 h = absurd (omega arith)
-twelve (x0 ∷ x1 ∷ x2 ∷ x3 ∷ x4 ∷ x5 ∷ []) v0 v1 v2 v3 v4 v5 v6 v7 v8 v9 v10 v11 h = absurd (omega arith)
-twelve (x0 ∷ x1 ∷ x2 ∷ x3 ∷ x4 ∷ x5 ∷ x6 ∷ []) v0 v1 v2 v3 v4 v5 v6 v7 v8 v9 v10 v11 h = absurd (omega arith)
-twelve (x0 ∷ x1 ∷ x2 ∷ x3 ∷ x4 ∷ x5 ∷ x6 ∷ x7 ∷ []) v0 v1 v2 v3 v4 v5 v6 v7 v8 v9 v10 v11 h = absurd (omega arith)
-twelve (x0 ∷ x1 ∷ x2 ∷ x3 ∷ x4 ∷ x5 ∷ x6 ∷ x7 ∷ x8 ∷ []) v0 v1 v2 v3 v4 v5 v6 v7 v8 v9 v10 v11 h = absurd (omega arith)
-twelve (x0 ∷ x1 ∷ x2 ∷ x3 ∷ x4 ∷ x5 ∷ x6 ∷ x7 ∷ x8 ∷ x9 ∷ []) v0 v1 v2 v3 v4 v5 v6 v7 v8 v9 v10 v11 h = absurd (omega arith)
-twelve (x0 ∷ x1 ∷ x2 ∷ x3 ∷ x4 ∷ x5 ∷ x6 ∷ x7 ∷ x8 ∷ x9 ∷ x10 ∷ []) v0 v1 v2 v3 v4 v5 v6 v7 v8 v9 v10 v11 h = absurd (omega arith)
-twelve (x0 ∷ x1 ∷ x2 ∷ x3 ∷ x4 ∷ x5 ∷ x6 ∷ x7 ∷ x8 ∷ x9 ∷ x10 ∷ x11 ∷ l) v0 v1 v2 v3 v4 v5 v6 v7 v8 v9 v10 v11 h = refl

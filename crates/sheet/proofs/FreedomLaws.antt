@@ -18,12 +18,12 @@ use Rattle.scene.specs.declared.scene.Scene.{Scene as SceneStruct}
 use Rattle.freedom.specs.Freed.{need, Freed}
 use Rattle.freedom.proofs.DofLaws.{total-few}
 use Rattle.format.specs.Format.{bodiesOf, relationsOf}
-use Rattle.sheet.specs.SceneAt.{sceneAt}
+use Rattle.refusals.specs.SceneAt.{sceneAt}
 use Rattle.format.specs.Faults.{unless, sheetFault}
-use Rattle.sheet.specs.Refusals.{dofScratch, dofFault}
+use Rattle.refusals.specs.Refusals.{dofScratch, dofFault}
 use Rattle.sheet.specs.Freedoms.{freedomsOf, DofAnswer}
 use Rattle.format.proofs.RefusalLaws.{none-of}
-use Rattle.sheet.proofs.FigureLaws.{counted, few, row-count, scene-is, unknown-count, unknowns-le}
+use Rattle.refusals.proofs.FigureLaws.{counted, few, row-count, scene-is, unknown-count, unknowns-le}
 use Rattle.sheet.proofs.SolvingLaws.{passes}
 
 -- ---- what an accepted call says

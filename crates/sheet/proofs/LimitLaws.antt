@@ -18,7 +18,7 @@ use Rattle.scene.specs.Scene.{sceneIn}
 use Rattle.closeness.specs.RowBound.{SHEET-LIMIT, UNIT-LIMIT, upTo, upToV, smallGeo, smallEnd, smallLaw, smallRel}
 use Rattle.least_squares.proofs.TableLaws.{length-listOf, getD-listOf}
 use Rattle.format.specs.Format.{bodiesOf, relationsOf, relStart}
-use Rattle.sheet.specs.SceneAt.{sceneAt}
+use Rattle.refusals.specs.SceneAt.{sceneAt}
 use Rattle.format.specs.Faults.{NEAR-ONE, THOUSAND, orElse, within, withinV, endLimits, relShape, relNames, relLimits, headerFault, bodiesFault, relFault, relsFault, sheetFault}
 use Rattle.format.proofs.RefusalLaws.{none-of}
 

@@ -17,12 +17,12 @@ use Rattle.placement.specs.Answer.{Filled}
 use Rattle.closeness.specs.HowCloselyLaws.{how-closely, rounds-end}
 use Rattle.rounds.specs.Places.{need}
 use Rattle.format.specs.Format.{bodiesOf, relationsOf}
-use Rattle.sheet.specs.SceneAt.{sceneAt}
+use Rattle.refusals.specs.SceneAt.{sceneAt}
 use Rattle.format.specs.Faults.{unless, sheetFault}
-use Rattle.sheet.specs.Refusals.{dragFault, solveScratch, solveFault}
+use Rattle.refusals.specs.Refusals.{dragFault, solveScratch, solveFault}
 use Rattle.sheet.specs.Solving.{dragOf, flagOf, SolveAnswer}
 use Rattle.format.proofs.RefusalLaws.{none-of}
-use Rattle.sheet.proofs.FigureLaws.{few, row-count, scene-is, unknown-count}
+use Rattle.refusals.proofs.FigureLaws.{few, row-count, scene-is, unknown-count}
 use Rattle.sheet.proofs.LimitLaws.{all-small}
 
 -- ---- the dragged body

@@ -3,7 +3,7 @@
 use Prim.Native.Nat.{ℕ}
 use mathlib.Core.Path.{_≡_}
 use mathlib.Core.Bool.{cond}
-use mathlib.Core.List.{List, [], _∷_, _++_}
+use mathlib.Core.List.{List, _++_}
 use mathlib.Core.Option.{Option, none, some}
 use lib.ListN.{length, drop}
 use lib.Dec.{eqb, ltb}
@@ -14,9 +14,10 @@ use Rattle.relations.specs.Model.{Rel, poseOfFrame}
 use Rattle.relations.specs.Rows.{ground}
 use Rattle.judging.specs.Judge.{Reading, jointReading}
 use Rattle.snapping.specs.Snap.{Motion, snap}
+use Rattle.scene.specs.Scene.{poseDoubles}
 use Rattle.records.specs.Record.{bodyAt, relAt}
 use Rattle.format.specs.Format.{bodiesOf, bodyStart, relStart}
-use Rattle.sheet.specs.Refusals.{readingFault, snapFault}
+use Rattle.refusals.specs.Refusals.{readingFault, snapFault}
 
 -- relation j
 abbrev pub relationOf : List ℕ → ℕ → Rel
@@ -41,11 +42,6 @@ unfoldable pub motionOf : List ℕ → ℕ → Motion
 motionOf s j =
     let rel = relationOf s j in
     snap rel (poseIn s (rel .a .body)) (poseIn s (rel .b .body)) (centerIn s (rel .b .body))
-
--- a pose as 12 doubles: nine turning entries by row, position
-unfoldable pub poseDoubles : Pose Float → List Float
-poseDoubles q =
-    q .r .r0 .x ∷ q .r .r0 .y ∷ q .r .r0 .z ∷ q .r .r1 .x ∷ q .r .r1 .y ∷ q .r .r1 .z ∷ q .r .r2 .x ∷ q .r .r2 .y ∷ q .r .r2 .z ∷ q .t .x ∷ q .t .y ∷ q .t .z ∷ []
 
 abbrev pub readingPair : Float → Float → Reading
 readingPair offset angle = record { offset = offset; angle = angle }

@@ -9,8 +9,8 @@ use lib.Ieee.{Float}
 use Rattle.body_freedom.specs.Dof.{Freedoms, dof}
 use Rattle.body_freedom.specs.Layout.{freedomsDoubles}
 use Rattle.format.specs.Format.{bodiesOf}
-use Rattle.sheet.specs.SceneAt.{sceneAt}
-use Rattle.sheet.specs.Refusals.{dofFault}
+use Rattle.refusals.specs.SceneAt.{sceneAt}
+use Rattle.refusals.specs.Refusals.{dofFault}
 
 -- the answer of `dof` on an accepted sheet
 abbrev pub freedomsOf : List ℕ → Freedoms

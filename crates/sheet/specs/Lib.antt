@@ -1,5 +1,3 @@
-pub mod SceneAt
-pub mod Refusals
 pub mod Calls
 pub mod Solving
 pub mod Freedoms

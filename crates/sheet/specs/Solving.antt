@@ -14,8 +14,8 @@ use Rattle.scene.specs.Solve.{Solution, MAX-ITER, solve}
 use Rattle.placement.specs.Answer.{framesDoubles}
 use Rattle.closeness.specs.HowClosely.{HowClosely, roundsOf}
 use Rattle.format.specs.Format.{bodiesOf, relationsOf}
-use Rattle.sheet.specs.SceneAt.{sceneAt}
-use Rattle.sheet.specs.Refusals.{solveFault}
+use Rattle.refusals.specs.SceneAt.{sceneAt}
+use Rattle.refusals.specs.Refusals.{solveFault}
 
 -- the dragged body; 65535 is none
 unfoldable pub dragOf : ℕ → Option ℕ

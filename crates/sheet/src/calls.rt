@@ -1,5 +1,5 @@
 // The calls that need no iteration, exported for C: judging, `joint_reading` and `snap` of a sheet's relation. Each gives 0, or the number of the test that refuses it
-// and then changes nothing lent. specs/Refusals.antt and specs/Calls.antt have the definitions.
+// and then changes nothing lent. refusals' specs/Refusals.antt and specs/Calls.antt have the definitions.
 
 use format::refusals::sheet_fault;
 use judging::judge::Reading;
@@ -11,6 +11,7 @@ use records::record::u16_at;
 use relations::model::Place;
 use relations::model::Pose;
 use relations::model::Rel;
+use scene::scene::put_pose;
 use snapping::snap::Motion;
 use snapping::snap::snap;
 use vectors::vec::Vec3;
@@ -22,8 +23,9 @@ ghost use Rattle.vectors.specs.Vec.{vec};
 ghost use Rattle.relations.specs.Model.{relOf, pose, bodyNumber};
 ghost use Rattle.judging.specs.Judge.{reading};
 ghost use Rattle.snapping.specs.Snap as snapping;
+ghost use Rattle.scene.specs.Scene.{poseDoubles};
 ghost use Rattle.format.specs.Format.{bodiesOf, relStart};
-ghost use Rattle.sheet.specs.Refusals as spec;
+ghost use Rattle.refusals.specs.Refusals as spec;
 ghost use Rattle.sheet.specs.Calls as calls;
 
 // Tests 1 to 7, then 13.
@@ -119,25 +121,11 @@ fn motion_of(s: &[u8], relation: u16) -> Motion
 // Nine turning entries by row, then the position.
 fn fill(d: &mut [f64], m: Motion)
     requires { ⌜ 12 ≤ length (now d) ⌝ }
-    ensures { λ _. ⌜ now (d .exit) ≡ calls.poseDoubles (snapping.motion m) ++ drop 12 (now (d .entry)) ⌝ }
+    ensures { λ _. ⌜ now (d .exit) ≡ poseDoubles (snapping.motion m) ++ drop 12 (now (d .entry)) ⌝ }
 {
     let r = m.r;
-    let r0 = r.r0;
-    let r1 = r.r1;
-    let r2 = r.r2;
     let t = m.t;
-    d[0] = r0.x;
-    d[1] = r0.y;
-    d[2] = r0.z;
-    d[3] = r1.x;
-    d[4] = r1.y;
-    d[5] = r1.z;
-    d[6] = r2.x;
-    d[7] = r2.y;
-    d[8] = r2.z;
-    d[9] = t.x;
-    d[10] = t.y;
-    d[11] = t.z;
+    put_pose(d, 0, Pose { r, t });
 }
 
 // Whether the relation suits its ends: `check`, then `check_tangent`.

@@ -1,9 +1,9 @@
-// `dof` of a sheet, exported for C: 0, or the number of the test that refuses it; then nothing lent has changed. specs/Refusals.antt and specs/Freedoms.antt have the
+// `dof` of a sheet, exported for C: 0, or the number of the test that refuses it; then nothing lent has changed. refusals' specs/Refusals.antt and specs/Freedoms.antt have the
 // definitions.
 
-use crate::figures::scene_in;
-use crate::lent::dof_fault;
 use freedom::dof::dof;
+use refusals::figures::scene_in;
+use refusals::lent::dof_fault;
 ghost use Rattle.sheet.specs.Freedoms as spec;
 
 // What each body may do with the others held still, and how much freedom the whole assembly has.

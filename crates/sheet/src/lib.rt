@@ -1,6 +1,4 @@
-// The calls on a sheet, their refusals and the C interface.
+// The calls on a sheet and the C interface.
 pub mod calls;
-pub mod figures;
 pub mod freedoms;
-pub mod lent;
 pub mod solving;

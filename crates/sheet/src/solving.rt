@@ -1,9 +1,9 @@
-// `solve` of a sheet, exported for C: 0, or the number of the test that refuses it; then nothing lent has changed. specs/Refusals.antt and specs/Solving.antt have the
+// `solve` of a sheet, exported for C: 0, or the number of the test that refuses it; then nothing lent has changed. refusals' specs/Refusals.antt and specs/Solving.antt have the
 // definitions.
 
-use crate::figures::scene_in;
-use crate::lent::solve_fault;
 use placement::solve::solve;
+use refusals::figures::scene_in;
+use refusals::lent::solve_fault;
 use relations::model::Place;
 ghost use mathlib.Core.Path.{_≡_};
 ghost use Rattle.relations.specs.Model.{bodyNumber};

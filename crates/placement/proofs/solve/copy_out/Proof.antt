@@ -4,7 +4,8 @@ use Prim.Native.Nat.{_-_, _≤_}
 use native.Mathlib.Omega.{arith}
 use Rattle.least_squares.specs.Memory.{part}
 use Rattle.scene.specs.Scene.{Put}
-use Rattle.placement.proofs.SolveLaws.{put-none, put-entry, part-more, put-front}
+use Rattle.placement.proofs.SolveLaws.{put-none, put-entry, part-more}
+use Rattle.scene.proofs.SceneLaws.{put-front}
 use Rattle.placement.proofs.solve.copy_out.Statement.{statement}
 use Rattle.placement.proofs.solve.copy_out.Tie as tie
 

@@ -5,7 +5,8 @@ use Prim.Native.Nat.{_-_, _≤_}
 use native.Mathlib.Omega.{arith}
 use Rattle.least_squares.specs.Lm.{listOf}
 use Rattle.scene.specs.Scene.{Put, posesIn}
-use Rattle.placement.proofs.SolveLaws.{put-none, put-entry, put-front, list-none, list-more, errorAt, error-is, errors-are}
+use Rattle.placement.proofs.SolveLaws.{put-none, put-entry, list-none, list-more, errorAt, error-is, errors-are}
+use Rattle.scene.proofs.SceneLaws.{put-front}
 use Rattle.placement.proofs.solve.put_errors.Statement.{statement}
 use Rattle.placement.proofs.solve.put_errors.Tie as tie
 

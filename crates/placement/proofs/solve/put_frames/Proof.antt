@@ -6,7 +6,8 @@ use native.Mathlib.Omega.{arith}
 use Rattle.least_squares.specs.Lm.{listOf}
 use Rattle.scene.specs.Scene.{Put}
 use Rattle.placement.specs.Answer.{framesDoubles}
-use Rattle.placement.proofs.SolveLaws.{put-none, put-front, frameIn, frames-none, frame-at-is, frames-step, frames-are}
+use Rattle.placement.proofs.SolveLaws.{put-none, frameIn, frames-none, frame-at-is, frames-step, frames-are}
+use Rattle.scene.proofs.SceneLaws.{put-front}
 use Rattle.placement.proofs.solve.put_frames.Statement.{statement}
 use Rattle.placement.proofs.solve.put_frames.Tie as tie
 

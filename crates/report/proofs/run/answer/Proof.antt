@@ -2,8 +2,8 @@
 use native.Mathlib.Omega.{arith}
 use lib.Dec.{eqb}
 use borrow.Author.Needs.{needs}
-use Rattle.sheet.proofs.CallLaws.{sheet-passes}
-use Rattle.sheet.proofs.FigureLaws.{counted}
+use Rattle.format.proofs.RefusalLaws.{sheet-passes}
+use Rattle.refusals.proofs.FigureLaws.{counted}
 use Rattle.report.proofs.RunLaws.{put-counted}
 use Rattle.report.proofs.run.answer.Statement.{statement}
 use Rattle.report.proofs.run.answer.Tie as tie

@@ -1,7 +1,8 @@
 -- `sheet::calls::relation_fault` meets its contract. Assumes nothing.
 use mathlib.Core.Path.{sym, _∙_}
 use native.Mathlib.Omega.{arith}
-use Rattle.sheet.proofs.CallLaws.{first, later, reading-parts, relation-missing, relation-there, sheet-passes}
+use Rattle.format.proofs.RefusalLaws.{first, later, sheet-passes}
+use Rattle.sheet.proofs.CallLaws.{reading-parts, relation-missing, relation-there}
 use borrow.Author.Needs.{needs}
 use Rattle.sheet.proofs.calls.relation_fault.Statement.{statement}
 use Rattle.sheet.proofs.calls.relation_fault.Tie as tie

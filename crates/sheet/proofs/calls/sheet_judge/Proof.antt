@@ -1,7 +1,8 @@
 -- `sheet::calls::sheet_judge` meets its contract. Assumes nothing.
 use mathlib.Core.Path.{ap, sym, _∙_}
 use Rattle.judging.specs.Judge.{judge}
-use Rattle.sheet.proofs.CallLaws.{first, judge-parts, later}
+use Rattle.format.proofs.RefusalLaws.{first, later}
+use Rattle.sheet.proofs.CallLaws.{judge-parts}
 use borrow.Author.Needs.{needs}
 use Rattle.sheet.proofs.calls.sheet_judge.Statement.{statement}
 use Rattle.sheet.proofs.calls.sheet_judge.Tie as tie

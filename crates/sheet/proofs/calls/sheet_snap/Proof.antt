@@ -1,7 +1,8 @@
 -- `sheet::calls::sheet_snap` meets its contract. Assumes nothing.
 use mathlib.Core.Path.{sym, _∙_}
 use native.Mathlib.Omega.{arith}
-use Rattle.sheet.proofs.CallLaws.{fewer-lent, first, later, motion-done, motion-kept, snap-parts, twelve-lent}
+use Rattle.sheet.proofs.CallLaws.{fewer-lent, motion-done, motion-kept, snap-parts, twelve-lent}
+use Rattle.format.proofs.RefusalLaws.{first, later}
 use borrow.Author.Needs.{needs}
 use Rattle.sheet.proofs.calls.sheet_snap.Statement.{statement}
 use Rattle.sheet.proofs.calls.sheet_snap.Tie as tie

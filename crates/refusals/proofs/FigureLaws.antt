@@ -1,10 +1,10 @@
 -- How many unknowns and rows a scene can have, and that the scratch figures of the code are those of the definitions. By induction over bodies and relations. Assumes
 -- nothing.
-use mathlib.Core.Path.{_≡_, refl, sym, ap, _∙_, subst}
+use mathlib.Core.Path.{_≡_, refl, sym, ap, _∙_}
 use mathlib.Core.Bool.{Bool, true, false, _&&_, cond}
 use mathlib.Core.List.{List, [], _∷_, _++_}
 use mathlib.Core.Option.{Option, none, some}
-use Prim.Native.Nat.{ℕ, zero, suc, _+_, _*_, _≤_}
+use Prim.Native.Nat.{ℕ, suc, _+_, _*_, _≤_}
 use native.Mathlib.Nat.{add-zero, mul-le-mul}
 use lib.Dec.{leb}
 use borrow.Author.Tests.{leb-true}
@@ -18,13 +18,13 @@ use Rattle.records.specs.Record.{bodyAt, relAt}
 use Rattle.scene.specs.Scene.{sceneIn}
 use Rattle.least_squares.proofs.TableLaws.{length-listOf}
 use Rattle.scene.specs.Scene.{sceneOf, SceneMade}
-use Rattle.scene.specs.Solve.{Scene, moves, layoutFrom, unknownsIn, unknowns, posesAt, endPose, planeBody, rowsAt, allRows}
-use Rattle.body_freedom.specs.Dof.{zeros}
+use Rattle.least_squares.specs.Lm.{listOf}
+use Rattle.scene.specs.Solve.{startAt, Scene, moves, layoutFrom, unknownsIn, unknowns, posesAt, endPose, planeBody, rowsAt, allRows}
 use Rattle.scene.specs.declared.scene.Scene.{Scene as SceneStruct}
 use Rattle.format.specs.Format.{bodiesOf, relationsOf}
-use Rattle.sheet.specs.SceneAt.{sceneAt}
+use Rattle.refusals.specs.SceneAt.{sceneAt}
 use Rattle.format.specs.Faults.{orElse, headerZeros, headerCounts, headerOffsets, headerFault, bodiesFault, relsFault, sheetFault}
-use Rattle.sheet.specs.Refusals.{rowsIn}
+use Rattle.refusals.specs.Refusals.{rowsIn}
 use Rattle.format.proofs.RefusalLaws.{none-of}
 
 -- six unknowns to a body at the most
@@ -87,7 +87,7 @@ module _ (s : List ℕ) (c : SceneStruct) (made : SceneMade s 24 (bodiesOf s) (2
   unknown-count = made .laid .unknown-count ∙ ap (λ (sc : Scene). unknowns sc) scene-is
 
   pub row-count : c .rows ≡ rowsIn (sceneAt s)
-  row-count = sym (made .laid .row-count (posesAt (sceneOf s c) (zeros (unknowns (sceneOf s c))))) ∙ ap (λ (sc : Scene). rowsIn sc) scene-is
+  row-count = sym (made .laid .row-count (posesAt (sceneOf s c) (listOf startAt (unknowns (sceneOf s c))))) ∙ ap (λ (sc : Scene). rowsIn sc) scene-is
 
   pub unknowns-small : bodiesOf s ≤ 64 → c .n ≤ 384
   unfolding sceneIn
@@ -101,7 +101,7 @@ module _ (s : List ℕ) (c : SceneStruct) (made : SceneMade s 24 (bodiesOf s) (2
   unfolding sceneIn
   rows-small h =
       let e = row-count in
-      let l = rows-le (posesAt (sceneAt s) (zeros (unknowns (sceneAt s)))) (sceneAt s .rels) in
+      let l = rows-le (posesAt (sceneAt s) (listOf startAt (unknowns (sceneAt s)))) (sceneAt s .rels) in
       let q = length-listOf (λ j. relAt s (24 + 136 * bodiesOf s + 264 * 0 + 264 * j)) (relationsOf s) in
       omega arith
 

@@ -1,9 +1,9 @@
--- `sheet::lent::drag_fault` meets its contract. Assumes nothing.
+-- `refusals::lent::drag_fault` meets its contract. Assumes nothing.
 use native.Mathlib.Omega.{arith}
-use Rattle.sheet.proofs.CallLaws.{sheet-passes}
-use Rattle.sheet.proofs.LentLaws.{drag-none, drag-there, drag-missing}
-use Rattle.sheet.proofs.lent.drag_fault.Statement.{statement}
-use Rattle.sheet.proofs.lent.drag_fault.Tie as tie
+use Rattle.format.proofs.RefusalLaws.{sheet-passes}
+use Rattle.refusals.proofs.LentLaws.{drag-none, drag-there, drag-missing}
+use Rattle.refusals.proofs.lent.drag_fault.Statement.{statement}
+use Rattle.refusals.proofs.lent.drag_fault.Tie as tie
 
 returns : tie.Need-returns
 returns c = drag-none (c .before .before .args .sheet .now) _ (c .if1 .taken)

@@ -8,8 +8,8 @@ use borrow.Author.Tests.{lt-ltb, le-ltb, le-leb, lt-leb, eq-eqb, ne-eqb}
 use Rattle.records.specs.Record.{GROUND}
 use Rattle.format.specs.Format.{bodiesOf, relationsOf}
 use Rattle.format.specs.Faults.{orElse, unless, sheetFault}
-use Rattle.sheet.specs.Refusals.{dragFault, solveScratch, solveFault, dofScratch, dofFault}
-use Rattle.sheet.proofs.CallLaws.{first, later}
+use Rattle.refusals.specs.Refusals.{dragFault, solveScratch, solveFault, dofScratch, dofFault}
+use Rattle.format.proofs.RefusalLaws.{first, later}
 
 -- ---- the drag
 

@@ -1,9 +1,9 @@
--- `sheet::figures::dof_scratch` meets its contract, by the laws of FigureLaws. Assumes nothing.
+-- `refusals::figures::dof_scratch` meets its contract, by the laws of FigureLaws. Assumes nothing.
 use native.Mathlib.Omega.{arith}
-use Rattle.sheet.proofs.FigureLaws.{few, row-count, unknown-count}
+use Rattle.refusals.proofs.FigureLaws.{few, row-count, unknown-count}
 use borrow.Author.Needs.{needs}
-use Rattle.sheet.proofs.figures.dof_scratch.Statement.{statement}
-use Rattle.sheet.proofs.figures.dof_scratch.Tie as tie
+use Rattle.refusals.proofs.figures.dof_scratch.Statement.{statement}
+use Rattle.refusals.proofs.figures.dof_scratch.Tie as tie
 
 scene-in-requires : tie.Need-scene-in-requires
 scene-in-requires c κs = search needs

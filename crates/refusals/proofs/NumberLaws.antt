@@ -8,7 +8,7 @@ use lib.Dec.{eqb, leb, ltb}
 use Rattle.records.specs.Record.{GROUND}
 use Rattle.format.specs.Format.{bodiesOf, relationsOf, bodyStart, relStart}
 use Rattle.format.specs.Faults.{orElse, unless, headerZeros, headerCounts, headerOffsets, headerFault, bodyShape, bodyLimits, bodyFault, relShape, relNames, relLimits, relFault, bodiesFault, relsFault, sheetFault}
-use Rattle.sheet.specs.Refusals.{dragFault, solveScratch, solveFault, dofScratch, dofFault}
+use Rattle.refusals.specs.Refusals.{dragFault, solveScratch, solveFault, dofScratch, dofFault}
 
 or-else-le : (a b n : ℕ) → a ≤ n → b ≤ n → orElse a b ≤ n
 or-else-le zero b n h k = k

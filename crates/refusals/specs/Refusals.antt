@@ -6,18 +6,18 @@ use mathlib.Core.List.{List}
 use lib.ListN.{length}
 use lib.Dec.{eqb, leb, ltb}
 use Rattle.judging.specs.Judge.{judge}
-use Rattle.scene.specs.Solve.{Scene, unknowns, rowsOf}
-use Rattle.body_freedom.specs.Dof.{zeros}
+use Rattle.least_squares.specs.Lm.{listOf}
+use Rattle.scene.specs.Solve.{Scene, unknowns, rowsOf, startAt}
 use Rattle.records.specs.Record.{GROUND, relAt}
 use Rattle.format.specs.Format.{bodiesOf, relationsOf, relStart}
 use Rattle.format.specs.Faults.{orElse, unless, sheetFault}
-use Rattle.sheet.specs.SceneAt.{sceneAt}
+use Rattle.refusals.specs.SceneAt.{sceneAt}
 
 -- ---- 13, 8, 11, 12, 10, 9: what the call takes
 
 -- R, and n
 abbrev pub rowsIn : Scene → ℕ
-rowsIn sc = length (rowsOf sc (zeros (unknowns sc)))
+rowsIn sc = length (rowsOf sc (listOf startAt (unknowns sc)))
 
 abbrev pub solveScratch : List ℕ → ℕ
 solveScratch s =

@@ -1,11 +1,11 @@
--- `sheet::lent::solve_fault` meets its contract. Assumes nothing.
+-- `refusals::lent::solve_fault` meets its contract. Assumes nothing.
 use mathlib.Core.Path.{sym, _∙_}
 use native.Mathlib.Omega.{arith}
 use borrow.Author.Needs.{needs}
-use Rattle.sheet.proofs.CallLaws.{sheet-passes}
-use Rattle.sheet.proofs.LentLaws.{solve-first, solve-drag, solve-lent, slice-short, scratch-short, all-lent, poses-short, frames-short, errors-short, all-long}
-use Rattle.sheet.proofs.lent.solve_fault.Statement.{statement}
-use Rattle.sheet.proofs.lent.solve_fault.Tie as tie
+use Rattle.format.proofs.RefusalLaws.{sheet-passes}
+use Rattle.refusals.proofs.LentLaws.{solve-first, solve-drag, solve-lent, slice-short, scratch-short, all-lent, poses-short, frames-short, errors-short, all-long}
+use Rattle.refusals.proofs.lent.solve_fault.Statement.{statement}
+use Rattle.refusals.proofs.lent.solve_fault.Tie as tie
 
 sheet-fault-requires : tie.Need-sheet-fault-requires
 sheet-fault-requires c κs = search needs

@@ -1,10 +1,10 @@
--- `sheet::figures::scene_in` meets its contract, by the laws of FigureLaws. Assumes nothing.
+-- `refusals::figures::scene_in` meets its contract, by the laws of FigureLaws. Assumes nothing.
 use native.Mathlib.Omega.{arith}
-use Rattle.sheet.proofs.CallLaws.{sheet-passes}
-use Rattle.sheet.proofs.FigureLaws.{counted}
+use Rattle.format.proofs.RefusalLaws.{sheet-passes}
+use Rattle.refusals.proofs.FigureLaws.{counted}
 use borrow.Author.Needs.{needs}
-use Rattle.sheet.proofs.figures.scene_in.Statement.{statement}
-use Rattle.sheet.proofs.figures.scene_in.Tie as tie
+use Rattle.refusals.proofs.figures.scene_in.Statement.{statement}
+use Rattle.refusals.proofs.figures.scene_in.Tie as tie
 
 u16-at-requires : tie.Need-u16-at-requires
 u16-at-requires c κs = let z = sheet-passes (c .before .args .s .now) (c .before .pre) .header in omega arith

@@ -8,7 +8,7 @@ ghost use Prim.Native.Nat.{_+_, _*_};
 ghost use Rattle.scene.specs.Scene.{SceneMade};
 ghost use Rattle.format.specs.Format.{bodiesOf, relationsOf};
 ghost use Rattle.format.specs.Faults as faults;
-ghost use Rattle.sheet.specs.Refusals as spec;
+ghost use Rattle.refusals.specs.Refusals as spec;
 
 // The sheet's bodies and relations, the layout of unknowns and the row count.
 pub fn scene_in(s: &[u8]) -> Scene

@@ -6,7 +6,7 @@ use format::refusals::sheet_fault;
 use records::record::u16_at;
 ghost use mathlib.Core.Path.{_≡_};
 ghost use Rattle.format.specs.Faults as faults;
-ghost use Rattle.sheet.specs.Refusals as spec;
+ghost use Rattle.refusals.specs.Refusals as spec;
 
 // Test 8: the drag is a body's number, or 65535 for none.
 fn drag_fault(sheet: &[u8], drag: u16) -> u32

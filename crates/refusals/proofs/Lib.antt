@@ -1,0 +1,3 @@
+pub mod FigureLaws
+pub mod LentLaws
+pub mod NumberLaws

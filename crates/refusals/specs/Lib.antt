@@ -1,0 +1,2 @@
+pub mod SceneAt
+pub mod Refusals

@@ -1,0 +1,3 @@
+// Which number `solve` and `dof` give for what is lent to them, and how much scratch they need.
+pub mod figures;
+pub mod lent;
