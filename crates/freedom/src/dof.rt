@@ -1,4 +1,4 @@
-// solve.rs, `dof`: each body's freedom in 29 doubles, and the whole assembly's. body_freedom's `specs/Dof.antt` has the definitions, `specs/Layout.antt` the 29 doubles.
+// solve.rs, `dof`: each body's freedom in 29 doubles, and the whole assembly's. body_freedom's `specs/Dof.antt` has the definitions, its `specs/Layout.antt` the 29 doubles.
 
 ghost use mathlib.Core.Path.{_≡_};
 ghost use Prim.Native.Nat.{_+_, _*_, _≤_, _<_};

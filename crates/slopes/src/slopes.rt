@@ -1,4 +1,4 @@
-// `jacobian` of lm.rs: a step, a slope by differences, and a column of slopes. `specs/Lm.antt` has the definitions.
+// `jacobian` of lm.rs: a step, a slope by differences, and a column of slopes. least_squares' `specs/Lm.antt` has the definitions.
 
 ghost use mathlib.Core.Path.{_≡_};
 ghost use Prim.Native.Nat.{ℕ, _+_, _*_, _-_, _≤_, _<_};
