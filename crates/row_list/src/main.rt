@@ -1,11 +1,26 @@
-// Replays the Rust's rows: each relation's count, seven rows and largest magnitude, at poses squared and not; and prints how many answers the list holds and how many of
-// them differ here. All bits are compared; all NaNs are the same. data/ has a copy of a list of oracle/lists, whose format oracle/FORMATS.md gives.
+// Replays the Rust's rows (each relation's count, seven rows and largest magnitude, at poses squared and not), wrapped angles and gaps of tangents, one list after another, and
+// prints how many answers each list holds and how many of them differ here. All bits are compared; all NaNs are the same. data/ has the lists, whose formats
+// oracle/FORMATS.md gives.
 
 use records::record::double_at;
 use records::record::rel_at;
 use records::record::u64_at;
 use relations::rows::Rows;
+use relations::rows::tangent_gap;
+use relations::rows::wrap;
 use scene::scene::rel_rows;
+use std::num::wrapping_add_u64;
+
+struct Tally {
+    answers: u64,
+    wrong: u64,
+}
+
+enum List {
+    Rows,
+    Wrapped,
+    Gaps,
+}
 
 // The next word; 0 where the list ends.
 fn word(fd: i32) -> u64 {
@@ -69,30 +84,74 @@ fn relation(fd: i32) -> bool {
     right(fd, rel_rows(&q, 0, 3, rel))
 }
 
-fn replay(fd: i32) {
+// One angle, and what it is wrapped to.
+fn wrapped(fd: i32) -> bool {
+    let mut s = [0u8; 16];
+    let got = io::read_full(fd, &mut s);
+    if got < 16 {
+        return false;
+    }
+    same(wrap(double_at(&s, 0)), u64_at(&s, 8))
+}
+
+// Two radii, an offset, whether one stands inside the other and whether one is a plane; the gap.
+fn gap(fd: i32) -> bool {
+    let mut s = [0u8; 48];
+    let got = io::read_full(fd, &mut s);
+    if got < 48 {
+        return false;
+    }
+    let ra = double_at(&s, 0);
+    let rb = double_at(&s, 8);
+    let offset = double_at(&s, 16);
+    let inside = u64_at(&s, 24) == 1;
+    let plane = u64_at(&s, 32) == 1;
+    same(tangent_gap(ra, rb, offset, inside, plane), u64_at(&s, 40))
+}
+
+fn record(fd: i32, k: List) -> bool {
+    match k {
+        List::Rows => relation(fd),
+        List::Wrapped => wrapped(fd),
+        List::Gaps => gap(fd),
+    }
+}
+
+fn replay(fd: i32, k: List) -> Tally {
     let n = word(fd);
     let mut wrong = 0u64;
     let mut i = 0u64;
     while i < n {
-        if !relation(fd) {
-            wrong += 1;
+        if !record(fd, k) {
+            wrong = wrapping_add_u64(wrong, 1);
         }
         i += 1;
     }
-    io::write_all(1, b"rows of relations ");
-    io::print_decimal(1, n);
+    Tally { answers: n, wrong }
+}
+
+fn say(name: &[u8], t: Tally) {
+    io::write_all(1, name);
+    io::write_all(1, b" answers ");
+    io::print_decimal(1, t.answers);
     io::write_all(1, b" wrong ");
-    io::print_decimal(1, wrong);
+    io::print_decimal(1, t.wrong);
     io::write_all(1, b"\n");
 }
 
-fn main() {
-    let path = b"rows.bin";
+fn replay_file(path: &[u8], k: List) {
     let fd = os::open_read(path);
     if fd < 0 {
         os::fail(path);
         return;
     }
-    replay(fd);
+    let t = replay(fd, k);
     libc::close(fd);
+    say(path, t);
+}
+
+fn main() {
+    replay_file(b"rows.bin", List::Rows);
+    replay_file(b"wrap.bin", List::Wrapped);
+    replay_file(b"tangent_gap.bin", List::Gaps);
 }
