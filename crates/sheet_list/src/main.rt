@@ -1,6 +1,5 @@
 // Replays the Rust's answers to the five calls, refusals included, and prints how many answers each list holds and how many of them differ here.
-// All bits are compared; all NaNs are the same. One scratch serves all calls and is never cleared. data/ has copies of lists of oracle/lists, whose formats oracle/FORMATS.md
-// gives.
+// All bits are compared; all NaNs are the same. data/ has the lists, whose formats oracle/FORMATS.md gives.
 mod solving;
 mod words;
 
@@ -140,11 +139,11 @@ fn calls(fd: i32, s: &[u8], scratch: &mut [f64]) -> Tally {
     Tally { answers: n, wrong }
 }
 
-// A sheet of at most 4,088 bytes, and its calls.
+// A sheet of at most 64 bodies and 128 relations, and its calls.
 fn sheet_calls(fd: i32, scratch: &mut [f64]) -> Tally {
-    let mut s = [0u8; 4096];
+    let mut s = [0u8; 42_520];
     let bytes = word(fd);
-    if bytes > 4088 {
+    if bytes > 42_520 {
         return Tally {
             answers: 0,
             wrong: 1,
@@ -265,10 +264,16 @@ fn replay_file(path: &[u8], k: List, scratch: &mut [f64]) {
     say(path, t);
 }
 
+// One scratch serves all calls and is never cleared. It is as long as the lists ask; 800 rows would ask `solve` for 1.3 million doubles, more than a stack of 8 MB holds.
+fn replay_all(scratch: &mut [f64; 300_000]) {
+    replay_file(b"sheets_refused.bin", List::Sheets, scratch);
+    replay_file(b"sheets_fields.bin", List::Fields, scratch);
+    replay_file(b"relation_calls.bin", List::Relations, scratch);
+    replay_file(b"sheets_solved.bin", List::Sheets, scratch);
+    replay_file(b"sheets_limits.bin", List::Sheets, scratch);
+}
+
 fn main() {
-    let mut scratch = [0.0 / 0.0; 8192];
-    replay_file(b"sheets_refused.bin", List::Sheets, &mut scratch);
-    replay_file(b"sheets_fields.bin", List::Fields, &mut scratch);
-    replay_file(b"relation_calls.bin", List::Relations, &mut scratch);
-    replay_file(b"sheets_solved.bin", List::Sheets, &mut scratch);
+    let mut scratch = [0.0 / 0.0; 300_000];
+    replay_all(&mut scratch);
 }
