@@ -92,24 +92,6 @@ fn all_bits(parts: &[&[f64]]) -> Vec<u64> {
     parts.iter().flat_map(|part| part.iter().copied().map(bits)).collect()
 }
 
-fn arcs_lists(dir: &str, rng: &mut Rng, scale: usize) {
-    use arcs::rule::{arctangent, pair};
-    let (mut sines, mut tangents, mut roots) = (List::new(), List::new(), List::new());
-    for t in args::angles().into_iter().chain((0..3000 * scale).map(|_| args::angle(rng)).collect::<Vec<_>>()) {
-        let (s, c) = pair(t);
-        sines.put(&[&[t, s, c]]);
-    }
-    for (y, x) in args::slopes().into_iter().chain((0..3000 * scale).map(|_| args::slope(rng)).collect::<Vec<_>>()) {
-        tangents.put(&[&[y, x, arctangent(y, x)]]);
-    }
-    for x in args::squares(rng).into_iter().chain((0..5000 * scale).map(|_| args::square(rng)).collect::<Vec<_>>()) {
-        roots.put(&[&[x, x.sqrt()]]);
-    }
-    sines.write(dir, "sine_cosine");
-    tangents.write(dir, "arctangent");
-    roots.write(dir, "root");
-}
-
 fn vectors_lists(dir: &str, rng: &mut Rng, scale: usize) {
     let (mut exps, mut muls, mut betweens) = (List::new(), List::new(), List::new());
     for i in 0..1500 * scale {
@@ -448,7 +430,6 @@ fn forget() {
 /// Writes all lists. A scale above 1 gives longer lists of single functions and of solved sheets, for a run that is not kept.
 pub fn write(dir: &str, scale: usize) -> bool {
     std::fs::create_dir_all(dir).unwrap();
-    arcs_lists(dir, &mut Rng(1), scale);
     vectors_lists(dir, &mut Rng(2), scale);
     eigen_lists(dir, &mut Rng(3), scale);
     solver_lists(dir, &mut Rng(4), scale);
