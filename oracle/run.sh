@@ -14,17 +14,25 @@ step() {
     echo "== $*"
     "$@" || { echo "oracle: FAILED: $*"; failed=1; }
 }
+# Makes the frozen lists again: each stands in one program's data, the same, and that program says that it replays it; no other list stands there.
 same_lists() {
-    local list copy same=0 differ=0
+    local list name copy copies same=0 records=0 wrong=0
+    rm -rf build/lists
     build/oracle lists build/lists || return 1
     for list in build/lists/*.bin; do
-        for copy in lists/"${list##*/}" ../crates/*/data/"${list##*/}"; do
-            [ -f "$copy" ] || continue
-            if cmp "$list" "$copy"; then same=$((same + 1)); else differ=$((differ + 1)); fi
-        done
+        name=${list##*/} copies=(../crates/*/data/"${list##*/}")
+        if [ ${#copies[@]} -eq 1 ] && cmp "$list" "${copies[0]}" && grep -q "^$name answers .* wrong 0$" "${copies[0]%/data/*}/stdout"; then
+            same=$((same + 1)) records=$((records + $(od -An -t u8 -N 8 "$list")))
+        else
+            echo "$name: not once and the same in crates/*/data, or not replayed there"
+            wrong=$((wrong + 1))
+        fi
     done
-    echo "frozen lists made again: $same files the same, $differ differ"
-    [ $differ -eq 0 ] && [ $same -gt 0 ]
+    for copy in ../crates/*/data/*.bin; do
+        [ -f "build/lists/${copy##*/}" ] || { echo "$copy: not made by the oracle"; wrong=$((wrong + 1)); }
+    done
+    echo "frozen lists made again: $same the same, $records records, $wrong wrong"
+    [ $wrong -eq 0 ] && [ $same -gt 0 ]
 }
 covered() { build/oracle cover 1 "$1" | grep -A20 "^reached"; return "${PIPESTATUS[0]}"; }
 

@@ -1,5 +1,5 @@
 // Replays the Rust's answers of `sym_eigen`, on lent memory and by value, and of `span_basis`, one list after another, and prints how many answers each list holds and how many of them differ here.
-// All bits are compared; all NaNs are the same. data/ has copies of lists of oracle/lists, whose formats oracle/FORMATS.md gives.
+// All bits are compared; all NaNs are the same. data/ has the lists, whose formats oracle/FORMATS.md gives.
 mod by_value;
 mod list;
 
