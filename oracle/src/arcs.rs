@@ -1,6 +1,5 @@
-//! Sine, cosine and arctangent for the oracle: those of the static library that `rt staticlib arcs`
-//! writes (`--cfg linked`), else this file's own reading of document 01's rule, module `rule`.
-//! `rule` is written from document 01 alone and is what the library is compared with.
+//! Root, sine, cosine and arctangent of the static library that `rt staticlib arcs` writes, which the oracle calls.
+//! Module `rule` is a reading of document 01's rule, written from document 01 alone; the library is compared with it.
 
 pub mod rule {
     /// 2π, π, π/2 and π/4, by bits.
@@ -81,32 +80,24 @@ pub mod rule {
     }
 }
 
-#[cfg(linked)]
-mod linked {
-    mod c {
-        unsafe extern "C" {
-            pub fn root(x: f64) -> f64;
-            pub fn sine(t: f64) -> f64;
-            pub fn cosine(t: f64) -> f64;
-            pub fn arctangent(y: f64, x: f64) -> f64;
-        }
-    }
-    // Plain functions of doubles, with no memory behind them.
-    pub fn root(x: f64) -> f64 {
-        unsafe { c::root(x) }
-    }
-    pub fn sine(t: f64) -> f64 {
-        unsafe { c::sine(t) }
-    }
-    pub fn cosine(t: f64) -> f64 {
-        unsafe { c::cosine(t) }
-    }
-    pub fn arctangent(y: f64, x: f64) -> f64 {
-        unsafe { c::arctangent(y, x) }
+mod c {
+    unsafe extern "C" {
+        pub fn root(x: f64) -> f64;
+        pub fn sine(t: f64) -> f64;
+        pub fn cosine(t: f64) -> f64;
+        pub fn arctangent(y: f64, x: f64) -> f64;
     }
 }
-
-#[cfg(linked)]
-pub use linked::{arctangent, cosine, root, sine};
-#[cfg(not(linked))]
-pub use rule::{arctangent, cosine, sine};
+// Plain functions of doubles, with no memory behind them.
+pub fn root(x: f64) -> f64 {
+    unsafe { c::root(x) }
+}
+pub fn sine(t: f64) -> f64 {
+    unsafe { c::sine(t) }
+}
+pub fn cosine(t: f64) -> f64 {
+    unsafe { c::cosine(t) }
+}
+pub fn arctangent(y: f64, x: f64) -> f64 {
+    unsafe { c::arctangent(y, x) }
+}

@@ -1,8 +1,10 @@
 //! Time per call of the linked arcs, root, `solve` and `dof` beside Rust's own on the same arguments, in one run. Not a test.
 
-#[cfg(linked)]
+use crate::answer::Call;
+use crate::rng::Rng;
+use crate::{plain, port};
+
 pub fn run() -> bool {
-    use crate::rng::Rng;
     let mut rng = Rng(1);
     let angles: Vec<f64> = (0..1 << 16).map(|_| rng.range(0.0, 7.0)).collect();
     let lengths: Vec<f64> = (0..1 << 16).map(|_| rng.range(0.0, 1e6)).collect();
@@ -32,9 +34,7 @@ pub fn run() -> bool {
 }
 
 /// `solve` and `dof` on each sheet, both sides from its bytes on.
-#[cfg(all(sheet_solve, sheet_dof))]
 pub fn sheets(files: &[&str]) -> bool {
-    use crate::answer::Call;
     let lots = 2_000_000;
     let mut scratch = vec![f64::NAN; lots];
     for file in files {
@@ -47,22 +47,16 @@ pub fn sheets(files: &[&str]) -> bool {
         ];
         for (name, call) in calls {
             let theirs = milliseconds(&mut || {
-                std::hint::black_box(crate::plain::answer(&bytes, call)).ok();
+                std::hint::black_box(plain::answer(&bytes, call)).ok();
             });
-            let ours = milliseconds(&mut || crate::compare::run(&bytes, call, &mut scratch));
+            let ours = milliseconds(&mut || port::run(&bytes, call, &mut scratch));
             println!("{name:6} {m:2} bodies, {k:3} relations: {ours:9.3} ms   Rust {theirs:9.3} ms   ratio {:.2}", ours / theirs);
         }
     }
     true
 }
-#[cfg(not(all(sheet_solve, sheet_dof)))]
-pub fn sheets(_: &[&str]) -> bool {
-    println!("bench: no `solve` and `dof` in target/staticlib/libsheet.a");
-    true
-}
 
 /// The best of runs that take about a second together, five at least.
-#[cfg(all(sheet_solve, sheet_dof))]
 fn milliseconds(f: &mut dyn FnMut()) -> f64 {
     let begin = std::time::Instant::now();
     let (mut best, mut runs) = (f64::INFINITY, 0);
@@ -76,7 +70,6 @@ fn milliseconds(f: &mut dyn FnMut()) -> f64 {
 }
 
 /// The best of nine runs over all arguments.
-#[cfg(linked)]
 fn nanoseconds(first: &[f64], second: &[f64], f: &dyn Fn(f64, f64) -> f64) -> f64 {
     use std::hint::black_box;
     let once = || {
@@ -87,10 +80,4 @@ fn nanoseconds(first: &[f64], second: &[f64], f: &dyn Fn(f64, f64) -> f64) -> f6
         start.elapsed().as_nanos() as f64 / first.len() as f64
     };
     (0..9).map(|_| once()).fold(f64::INFINITY, f64::min)
-}
-
-#[cfg(not(linked))]
-pub fn run() -> bool {
-    println!("bench: no libarcs.a in target/staticlib");
-    true
 }

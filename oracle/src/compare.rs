@@ -1,13 +1,12 @@
 //! Comparisons: tenon with document 01's `max`, the linked arcs, the linked sheet library, the program report.
 
-#[cfg(sheet)]
-use crate::answer::{Answer, text};
-use crate::answer::{Call, words};
+use crate::answer::{Call, bits, hex, text, words};
+use crate::arguments as args;
 use crate::cover::Cover;
-use crate::generate;
 use crate::rng::Rng;
 use crate::sheet::{self, Sheet};
-use crate::{plain, with_max01};
+use crate::{generate, plain, port, with_max01};
+use arcs::rule;
 
 /// Every case of a seed: N valid sheets with calls that are accepted, N damaged ones and N with calls near
 /// their limits, then every field changed by itself, then the sheets at the limits. `each` is given the bytes and the call.
@@ -78,18 +77,15 @@ impl Tally {
             }
         }
     }
+    /// Prints the counts; whether something was compared and nothing differs.
     fn done(&self) -> bool {
         println!("{}: {} compared, {} differ", self.what, self.compared, self.differ);
-        self.differ == 0
+        self.compared > 0 && self.differ == 0
     }
 }
 
 /// The linked arcs and root against `rule` and the hardware's root.
-#[cfg(linked)]
 pub fn arcs(n: usize) -> bool {
-    use crate::answer::{bits, hex};
-    use crate::arguments as args;
-    use arcs::rule;
     let mut rng = Rng(n as u64);
     let (mut sine, mut cosine, mut arctangent, mut root) = (Tally::new("sine"), Tally::new("cosine"), Tally::new("arctangent"), Tally::new("root"));
     let mut one = |t: f64| {
@@ -118,166 +114,7 @@ pub fn arcs(n: usize) -> bool {
     (0..n / 10).for_each(|_| one(1.0 + rng.range(-1.1e-8, 1.1e-8)));
     [sine, cosine, arctangent, root].iter().fold(true, |good, tally| tally.done() & good)
 }
-#[cfg(not(linked))]
-pub fn arcs(_: usize) -> bool {
-    println!("arcs: no libarcs.a in target/staticlib, nothing compared; the oracle uses its own arcs");
-    true
-}
-
-/// The sheet library's C interface.
-#[cfg(sheet)]
-mod port {
-    use super::*;
-
-    unsafe extern "C" {
-        fn sheet_judge(sheet: *const u8, sheet_len: usize, relation: u16) -> u32;
-        fn sheet_joint_reading(sheet: *const u8, sheet_len: usize, relation: u16, offset: *mut f64, angle: *mut f64) -> u32;
-        fn sheet_snap(sheet: *const u8, sheet_len: usize, relation: u16, motion: *mut f64, motion_len: usize) -> u32;
-    }
-    #[cfg(sheet_solve)]
-    unsafe extern "C" {
-        fn sheet_solve(
-            sheet: *const u8,
-            sheet_len: usize,
-            drag: u16,
-            scratch: *mut f64,
-            scratch_len: usize,
-            poses: *mut f64,
-            poses_len: usize,
-            frames: *mut f64,
-            frames_len: usize,
-            errors: *mut f64,
-            errors_len: usize,
-            converged: *mut u8,
-        ) -> u32;
-    }
-    #[cfg(sheet_dof)]
-    unsafe extern "C" {
-        fn sheet_dof(
-            sheet: *const u8,
-            sheet_len: usize,
-            scratch: *mut f64,
-            scratch_len: usize,
-            freedoms: *mut f64,
-            freedoms_len: usize,
-            free: *mut u32,
-        ) -> u32;
-    }
-
-    /// `solve` or `dof` with this scratch; the answer is dropped.
-    #[cfg(all(sheet_solve, sheet_dof))]
-    pub fn run(bytes: &[u8], call: Call, scratch: &mut [f64]) {
-        let (sheet, len) = (bytes.as_ptr(), bytes.len());
-        match call {
-            Call::Solve { drag, poses, frames, errors, .. } => {
-                let (mut p, mut f, mut e, mut flag) = (vec![0.0; poses], vec![0.0; frames], vec![0.0; errors], 0u8);
-                let (s, n) = (scratch.as_mut_ptr(), scratch.len());
-                let number = unsafe { sheet_solve(sheet, len, drag, s, n, p.as_mut_ptr(), poses, f.as_mut_ptr(), frames, e.as_mut_ptr(), errors, &mut flag) };
-                assert_eq!(number, 0);
-            }
-            Call::Dof { freedoms, .. } => {
-                let (mut d, mut free) = (vec![0.0; freedoms], 0u32);
-                let number = unsafe { sheet_dof(sheet, len, scratch.as_mut_ptr(), scratch.len(), d.as_mut_ptr(), freedoms, &mut free) };
-                assert_eq!(number, 0);
-            }
-            _ => {}
-        }
-    }
-
-    /// What stands in lent memory before a call: odd numbers, and beyond the lent length a guard.
-    const GUARD: usize = 5;
-    fn filler(i: usize) -> f64 {
-        [f64::NAN, f64::INFINITY, -0.0, 1e300, 7.25][i % 5]
-    }
-    fn lent(len: usize) -> Vec<f64> {
-        (0..len + GUARD).map(filler).collect()
-    }
-    /// The list begins with `filled` and is untouched from there on.
-    fn holds(memory: &[f64], filled: &[f64]) -> bool {
-        memory.iter().enumerate().all(|(i, d)| match filled.get(i) {
-            Some(want) => crate::answer::bits(*d) == crate::answer::bits(*want),
-            None => d.to_bits() == filler(i).to_bits(),
-        })
-    }
-
-    /// Whether the library gives this answer and leaves alone what it must; None where it lacks the call.
-    /// `scratch` is kept from call to call and never cleared; a refusal may not touch it.
-    pub fn same(bytes: &[u8], call: Call, answer: &Result<Answer, u32>, scratch: &mut Vec<f64>) -> Option<bool> {
-        let (sheet, len) = (bytes.as_ptr(), bytes.len());
-        let number = answer.as_ref().err().copied().unwrap_or(0);
-        let none: &[f64] = &[];
-        Some(match call {
-            Call::Judge { relation } => unsafe { sheet_judge(sheet, len, relation) == number },
-            Call::Reading { relation } => {
-                let (mut o, mut a) = (filler(4), filler(3));
-                let got = unsafe { sheet_joint_reading(sheet, len, relation, &mut o, &mut a) };
-                let (wo, wa) = if let Ok(Answer::Reading { offset, angle }) = answer { (*offset, *angle) } else { (filler(4), filler(3)) };
-                got == number && crate::answer::bits(o) == crate::answer::bits(wo) && crate::answer::bits(a) == crate::answer::bits(wa)
-            }
-            Call::Snap { relation, motion } => {
-                let mut memory = lent(motion);
-                let got = unsafe { sheet_snap(sheet, len, relation, memory.as_mut_ptr(), motion) };
-                let want = if let Ok(Answer::Snap { motion }) = answer { motion } else { none };
-                got == number && holds(&memory, want)
-            }
-            #[cfg(sheet_solve)]
-            Call::Solve { drag, scratch: s, poses, frames, errors } => {
-                scratch.resize(scratch.len().max(s + GUARD), f64::NAN);
-                let before = scratch.clone();
-                let (mut p, mut f, mut e, mut flag) = (lent(poses), lent(frames), lent(errors), 77u8);
-                let got = unsafe {
-                    sheet_solve(
-                        sheet,
-                        len,
-                        drag,
-                        scratch.as_mut_ptr(),
-                        s,
-                        p.as_mut_ptr(),
-                        poses,
-                        f.as_mut_ptr(),
-                        frames,
-                        e.as_mut_ptr(),
-                        errors,
-                        &mut flag,
-                    )
-                };
-                let untouched = |from: usize| scratch[from..].iter().zip(&before[from..]).all(|(a, b)| a.to_bits() == b.to_bits());
-                got == number
-                    && match answer {
-                        Ok(Answer::Solve { poses, frames, errors, converged }) => {
-                            holds(&p, poses) && holds(&f, frames) && holds(&e, errors) && flag == *converged as u8 && untouched(s)
-                        }
-                        _ => holds(&p, none) && holds(&f, none) && holds(&e, none) && flag == 77 && untouched(0),
-                    }
-            }
-            #[cfg(sheet_dof)]
-            Call::Dof { scratch: s, freedoms } => {
-                scratch.resize(scratch.len().max(s + GUARD), f64::NAN);
-                let before = scratch.clone();
-                let (mut d, mut total) = (lent(freedoms), 777u32);
-                let got = unsafe { sheet_dof(sheet, len, scratch.as_mut_ptr(), s, d.as_mut_ptr(), freedoms, &mut total) };
-                let untouched = |from: usize| scratch[from..].iter().zip(&before[from..]).all(|(a, b)| a.to_bits() == b.to_bits());
-                got == number
-                    && match answer {
-                        Ok(Answer::Dof { freedoms, free }) => holds(&d, freedoms) && total == *free && untouched(s),
-                        _ => holds(&d, none) && total == 777 && untouched(0),
-                    }
-            }
-            #[cfg(not(all(sheet_solve, sheet_dof)))]
-            _ => {
-                let _ = scratch;
-                return None;
-            }
-        })
-    }
-}
-
-/// The library's `solve` or `dof` alone, for its time.
-#[cfg(all(sheet_solve, sheet_dof))]
-pub use port::run;
-
 /// The sheet library against the Rust: answers, refusals, and what must stay as it was.
-#[cfg(sheet)]
 pub fn sheet(seed: u64, n: usize) -> bool {
     let names = ["sheet_judge", "sheet_joint_reading", "sheet_snap", "sheet_solve", "sheet_dof"];
     let mut tallies = names.map(Tally::new);
@@ -291,12 +128,12 @@ pub fn sheet(seed: u64, n: usize) -> bool {
             Call::Solve { .. } => 3,
             Call::Dof { .. } => 4,
         };
-        let Some(mut same) = port::same(bytes, call, &answer, &mut scratch) else { return };
+        let mut same = port::same(bytes, call, &answer, &mut scratch);
         // Where only document 01's max of zeros sets them apart, that is a listed difference.
         let other = with_max01::answer(bytes, call);
         if words(&other) != words(&answer) {
             differ_max += 1;
-            same = same || port::same(bytes, call, &other, &mut scratch) == Some(true);
+            same = same || port::same(bytes, call, &other, &mut scratch);
         }
         tallies[at].case(same, || {
             let file = format!("build/differs-{}.sheet", names[at]);
@@ -307,12 +144,6 @@ pub fn sheet(seed: u64, n: usize) -> bool {
     println!("sheet: {differ_max} answers hang on the max of two zeros");
     tallies.iter().fold(true, |good, tally| tally.done() & good)
 }
-#[cfg(not(sheet))]
-pub fn sheet(_: u64, _: usize) -> bool {
-    println!("sheet: no libsheet.a in target/staticlib, nothing compared");
-    true
-}
-
 /// The program `report` against the Rust.
 pub fn report(program: &str, seed: u64, n: usize) -> bool {
     use std::io::Write;

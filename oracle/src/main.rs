@@ -9,6 +9,7 @@ mod cover;
 mod examples;
 mod generate;
 mod lists;
+mod port;
 mod rng;
 mod sheet;
 
