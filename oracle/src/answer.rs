@@ -10,6 +10,24 @@ pub enum Call {
     Dof { scratch: usize, freedoms: usize },
 }
 
+/// The calls' names, by `Call::number`.
+pub const NAMES: [&str; 5] = ["judge", "joint_reading", "snap", "solve", "dof"];
+
+impl Call {
+    pub fn number(self) -> usize {
+        match self {
+            Call::Judge { .. } => 0,
+            Call::Reading { .. } => 1,
+            Call::Snap { .. } => 2,
+            Call::Solve { .. } => 3,
+            Call::Dof { .. } => 4,
+        }
+    }
+    pub fn name(self) -> &'static str {
+        NAMES[self.number()]
+    }
+}
+
 #[derive(Clone, Debug, PartialEq)]
 pub enum Answer {
     Judge,

@@ -1,58 +1,90 @@
 //! Comparisons: tenon with document 01's `max`, the linked arcs, the linked sheet library, the program report.
 
-use crate::answer::{Call, bits, hex, text, words};
+use crate::answer::{Answer, Call, bits, hex, text, words};
 use crate::arguments as args;
 use crate::cover::Cover;
 use crate::rng::Rng;
-use crate::sheet::{self, Sheet};
+use crate::sheet::{self, GROUND, Sheet};
 use crate::{generate, plain, port, with_max01};
 use arcs::rule;
 
-/// Every case of a seed: N valid sheets with calls that are accepted, N damaged ones and N with calls near
-/// their limits, then every field changed by itself, then the sheets at the limits. `each` is given the bytes and the call.
-fn cases(seed: u64, n: usize, cover: &mut Cover, mut each: impl FnMut(&mut Cover, &[u8], Call)) {
-    let mut rng = Rng(seed);
+/// Every case of a seed: N valid sheets with calls that are accepted, some with calls near their limits too, and N damaged ones;
+/// then every field changed by itself, and sheets at the limits. `ask` gives the Rust's answer; what was met is counted.
+fn cases(seed: u64, n: usize, mut ask: impl FnMut(&[u8], Call) -> Result<Answer, u32>) -> Cover {
+    let (mut rng, mut cover) = (Rng(seed), Cover::new());
+    cover.want_lengths();
+    cover.want_doubles();
     for i in 0..n {
         let most = if i % 50 == 0 { 12 } else { 4 };
         let sheet = if i % 5 == 4 { generate::nearly_free(&mut rng) } else { generate::sheet(&mut rng, i - i / 5, most) };
         cover.sheet(&sheet);
         let bytes = sheet.bytes();
-        generate::good_calls(&mut rng, &sheet).into_iter().for_each(|c| each(cover, &bytes, c));
+        let mut calls = generate::good_calls(&mut rng, &sheet);
         if i % 4 == 0 {
-            generate::calls(&mut rng, Some(&sheet)).into_iter().for_each(|c| each(cover, &bytes, c));
+            calls.extend(generate::calls(&mut rng, Some(&sheet)));
+        }
+        for call in calls {
+            let answer = ask(&bytes, call);
+            cover.call(call, &answer);
+            cover.lengths(&sheet, call, &answer);
+            if let Call::Solve { drag, scratch, poses, frames, errors } = call
+                && drag != GROUND
+            {
+                let without = ask(&bytes, Call::Solve { drag: GROUND, scratch, poses, frames, errors });
+                cover.add("solve with drag, another answer than without".into(), (answer.is_ok() && words(&without) != words(&answer)) as u64);
+            }
         }
         let damaged = generate::damaged(&mut rng, &sheet);
         let read = sheet::read(&damaged).ok().filter(|s| s.bodies.len() < 20);
-        generate::calls(&mut rng, read.as_ref()).into_iter().for_each(|c| each(cover, &damaged, c));
+        for call in generate::calls(&mut rng, read.as_ref()) {
+            let answer = ask(&damaged, call);
+            cover.call(call, &answer);
+            if let Some(sheet) = &read {
+                cover.lengths(sheet, call, &answer);
+            }
+        }
     }
     for base in generate::field_bases() {
         let sheet = crate::lists::record_words(&base.bytes());
         for (at, word) in generate::field_faults(&sheet) {
-            let mut changed = sheet.clone();
-            changed[at] = word;
-            let bytes: Vec<u8> = changed.iter().flat_map(|w| w.to_le_bytes()).collect();
-            each(cover, &bytes, Call::Judge { relation: 0 });
+            let with = |word: u64| -> Vec<u8> {
+                let mut changed = sheet.clone();
+                changed[at] = word;
+                changed.iter().flat_map(|w| w.to_le_bytes()).collect()
+            };
+            let bytes = with(word);
+            for call in generate::calls_on_one() {
+                let answer = ask(&bytes, call);
+                cover.call(call, &answer);
+                cover.double(f64::from_bits(word), |d| with(d.to_bits()), call, &answer);
+            }
         }
     }
-    for (_, sheet) in generate::limits(n >= 2000) {
+    for (_, sheet) in generate::limits(false) {
         cover.sheet(&sheet);
         let bytes = sheet.bytes();
-        generate::good_calls(&mut rng, &sheet).into_iter().for_each(|c| each(cover, &bytes, c));
+        for call in generate::good_calls(&mut rng, &sheet) {
+            let answer = ask(&bytes, call);
+            cover.call(call, &answer);
+        }
     }
+    cover.branches();
+    cover
 }
 
 /// Whether document 01's `max` ever changes an answer; prints what the cases cover.
 pub fn max_and_cover(seed: u64, n: usize) -> bool {
-    let (mut cover, mut calls, mut differ) = (Cover::new(), 0, 0);
-    cases(seed, n, &mut cover, |cover, bytes, call| {
+    let (mut calls, mut differ) = (0, 0);
+    let cover = cases(seed, n, |bytes, call| {
         let answer = plain::answer(bytes, call);
-        cover.call(call, &answer);
         calls += 1;
         if words(&answer) != words(&with_max01::answer(bytes, call)) {
             differ += 1;
         }
+        answer
     });
-    let good = cover.print();
+    cover.print();
+    let good = cover.done();
     println!("max of two zeros as document 01 has it: {differ} of {calls} answers differ from the Rust's release");
     good
 }
@@ -114,36 +146,50 @@ pub fn arcs(n: usize) -> bool {
     (0..n / 10).for_each(|_| one(1.0 + rng.range(-1.1e-8, 1.1e-8)));
     [sine, cosine, arctangent, root].iter().fold(true, |good, tally| tally.done() & good)
 }
-/// The sheet library against the Rust: answers, refusals, and what must stay as it was.
-pub fn sheet(seed: u64, n: usize) -> bool {
-    let names = ["sheet_judge", "sheet_joint_reading", "sheet_snap", "sheet_solve", "sheet_dof"];
-    let mut tallies = names.map(Tally::new);
-    let (mut cover, mut scratch, mut differ_max) = (Cover::new(), Vec::new(), 0);
-    cases(seed, n, &mut cover, |_, bytes, call| {
+/// The sheet library beside the Rust: one scratch for all calls, never cleared, and what was compared.
+struct Library {
+    scratch: Vec<f64>,
+    tallies: [Tally; 5],
+    by_max: u64,
+}
+
+impl Library {
+    fn new() -> Library {
+        let names = ["sheet_judge", "sheet_joint_reading", "sheet_snap", "sheet_solve", "sheet_dof"];
+        Library { scratch: Vec::new(), tallies: names.map(Tally::new), by_max: 0 }
+    }
+
+    /// Compares answer or refusal, and what must stay as it was; gives the Rust's answer.
+    fn ask(&mut self, bytes: &[u8], call: Call) -> Result<Answer, u32> {
         let answer = plain::answer(bytes, call);
-        let at = match call {
-            Call::Judge { .. } => 0,
-            Call::Reading { .. } => 1,
-            Call::Snap { .. } => 2,
-            Call::Solve { .. } => 3,
-            Call::Dof { .. } => 4,
-        };
-        let mut same = port::same(bytes, call, &answer, &mut scratch);
+        let mut same = port::same(bytes, call, &answer, &mut self.scratch);
         // Where only document 01's max of zeros sets them apart, that is a listed difference.
-        let other = with_max01::answer(bytes, call);
-        if words(&other) != words(&answer) {
-            differ_max += 1;
-            same = same || port::same(bytes, call, &other, &mut scratch);
+        if !same && port::same(bytes, call, &with_max01::answer(bytes, call), &mut self.scratch) {
+            self.by_max += 1;
+            same = true;
         }
-        tallies[at].case(same, || {
-            let file = format!("build/differs-{}.sheet", names[at]);
+        let tally = &mut self.tallies[call.number()];
+        let file = format!("build/differs-{}.sheet", tally.what);
+        tally.case(same, || {
             std::fs::write(&file, bytes).ok();
             format!("{call:?}, the sheet kept as {file}, expected\n{}", text(call, &answer))
         });
-    });
-    println!("sheet: {differ_max} answers hang on the max of two zeros");
-    tallies.iter().fold(true, |good, tally| tally.done() & good)
+        answer
+    }
+
+    fn done(&self) -> bool {
+        println!("answers that differ from the Rust's release by the max of two zeros alone: {}", self.by_max);
+        self.tallies.iter().fold(true, |good, tally| tally.done() & good)
+    }
 }
+
+/// The sheet library against the Rust on the cases of a seed.
+pub fn sheet(seed: u64, n: usize) -> bool {
+    let mut library = Library::new();
+    let cover = cases(seed, n, |bytes, call| library.ask(bytes, call));
+    library.done() & cover.done()
+}
+
 /// The program `report` against the Rust.
 pub fn report(program: &str, seed: u64, n: usize) -> bool {
     use std::io::Write;

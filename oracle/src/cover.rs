@@ -1,6 +1,6 @@
 //! Counts of what was tried: kinds of relations and bodies, refusals, branches of the Rust.
 
-use crate::answer::{Answer, Call};
+use crate::answer::{Answer, Call, NAMES};
 use crate::sheet::*;
 use std::collections::BTreeMap;
 use std::sync::atomic::Ordering;
@@ -8,12 +8,13 @@ use std::sync::atomic::Ordering;
 const LAWS: [&str; 7] = ["mate", "flush", "angle", "insert", "tangent", "symmetry", "joint"];
 const JOINTS: [&str; 6] = ["rigid", "revolute", "slider", "cylindrical", "planar", "ball"];
 const PRIMS: [&str; 4] = ["plane", "line", "point", "circle"];
-const CALLS: [(&str, &[u32]); 5] = [
-    ("judge", &[1, 2, 3, 4, 5, 6, 7, 11, 12, 13]),
-    ("joint_reading", &[1, 2, 3, 4, 5, 6, 7, 13]),
-    ("snap", &[1, 2, 3, 4, 5, 6, 7, 10, 13]),
-    ("solve", &[1, 2, 3, 4, 5, 6, 7, 8, 9, 10]),
-    ("dof", &[1, 2, 3, 4, 5, 6, 7, 9, 10]),
+/// The refusals that each call can give.
+const REFUSALS: [&[u32]; 5] = [
+    &[1, 2, 3, 4, 5, 6, 7, 11, 12, 13],
+    &[1, 2, 3, 4, 5, 6, 7, 13],
+    &[1, 2, 3, 4, 5, 6, 7, 10, 13],
+    &[1, 2, 3, 4, 5, 6, 7, 8, 9, 10],
+    &[1, 2, 3, 4, 5, 6, 7, 9, 10],
 ];
 
 /// Branches that no sheet within the limits is known to reach. Rows and slopes stay finite there, so the first
@@ -28,12 +29,13 @@ const OUT_OF_REACH: [&str; 6] = [
     "branch body_dof: no extra slide",
 ];
 
+#[derive(Default)]
 pub struct Cover(BTreeMap<String, u64>);
 
 impl Cover {
-    /// All that is to be reached, at 0.
+    /// All kinds of relations, bodies, refusals and answers, at 0.
     pub fn new() -> Cover {
-        let mut c = Cover(BTreeMap::new());
+        let mut c = Cover::default();
         let flags = |law: usize| if matches!(law as u8, INSERT | TANGENT | JOINT) { 0..2 } else { 0..1 };
         for (law, name) in LAWS.iter().enumerate() {
             for (a, b) in PRIMS.iter().flat_map(|a| PRIMS.iter().map(move |b| (a, b))) {
@@ -48,7 +50,7 @@ impl Cover {
         PRIMS.iter().for_each(|p| c.add(format!("symmetry plane is a {p}"), 0));
         ["a", "b", "plane"].iter().for_each(|e| c.add(format!("end {e} on the ground"), 0));
         ["fixed named", "fixed unnamed", "free named", "free unnamed"].iter().for_each(|b| c.add(format!("body {b}"), 0));
-        for (call, refusals) in CALLS {
+        for (call, refusals) in NAMES.iter().zip(REFUSALS) {
             c.add(format!("call {call} accepted"), 0);
             refusals.iter().for_each(|r| c.add(format!("call {call} refused {r:2}"), 0));
         }
@@ -85,13 +87,7 @@ impl Cover {
     }
 
     pub fn call(&mut self, call: Call, answer: &Result<Answer, u32>) {
-        let name = match call {
-            Call::Judge { .. } => "judge",
-            Call::Reading { .. } => "joint_reading",
-            Call::Snap { .. } => "snap",
-            Call::Solve { .. } => "solve",
-            Call::Dof { .. } => "dof",
-        };
+        let name = call.name();
         match answer {
             Ok(_) => self.add(format!("call {name} accepted"), 1),
             Err(r) => self.add(format!("call {name} refused {r:2}"), 1),
@@ -113,18 +109,26 @@ impl Cover {
         self.0.values().filter(|n| **n > 0).count()
     }
 
-    /// Prints all counts, then what was never reached; whether that is no more than what is out of reach.
-    pub fn print(&mut self) -> bool {
+    /// Enters how often the Rust took each of its branches.
+    pub fn branches(&mut self) {
         for (name, count) in tenon::NAMES.iter().zip(&tenon::COVER) {
             self.add(format!("branch {name}"), count.load(Ordering::Relaxed));
         }
+    }
+
+    /// Prints all counts.
+    pub fn print(&self) {
         for (what, n) in &self.0 {
             println!("{n:10}  {what}");
         }
+    }
+
+    /// Prints how much was reached and what never was; whether the latter is no more than what is out of reach.
+    pub fn done(&self) -> bool {
         let never: Vec<&String> = self.0.iter().filter(|(_, n)| **n == 0).map(|(what, _)| what).collect();
-        println!("reached {} of {}", self.0.len() - never.len(), self.0.len());
+        println!("kinds of cases: {} of {} reached", self.0.len() - never.len(), self.0.len());
         let known = |what: &str| OUT_OF_REACH.contains(&what);
-        never.iter().for_each(|what| println!("never reached: {what}{}", if known(what) { ", as known" } else { "" }));
+        never.iter().for_each(|what| println!("never reached{}: {what}", if known(what) { ", as known" } else { "" }));
         never.iter().all(|what| known(what))
     }
 }

@@ -611,3 +611,14 @@ pub fn good_calls(rng: &mut Rng, sheet: &Sheet) -> Vec<Call> {
     out.push(Call::Dof { scratch: more(scene.dof_scratch()), freedoms: more(29 * m) });
     out
 }
+
+/// All five calls on a sheet of one body and one relation, with enough lent.
+pub fn calls_on_one() -> [Call; 5] {
+    [
+        Call::Judge { relation: 0 },
+        Call::Reading { relation: 0 },
+        Call::Snap { relation: 0, motion: 12 },
+        Call::Solve { drag: GROUND, scratch: 300, poses: 12, frames: 12, errors: 1 },
+        Call::Dof { scratch: 300, freedoms: 29 },
+    ]
+}

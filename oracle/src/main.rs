@@ -6,6 +6,7 @@ mod arguments;
 mod bench;
 mod compare;
 mod cover;
+mod edges;
 mod examples;
 mod generate;
 mod lists;
@@ -94,6 +95,8 @@ fn write_sheets(seed: u64, n: usize, dir: &str) -> bool {
         cover.sheet(&sheet);
         std::fs::write(format!("{dir}/{i:04}.sheet"), sheet.bytes()).unwrap();
     }
+    cover.branches();
     cover.print();
+    cover.done();
     true
 }
