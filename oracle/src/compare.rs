@@ -3,6 +3,7 @@
 use crate::answer::{Answer, Call, bits, hex, text, words};
 use crate::arguments as args;
 use crate::cover::Cover;
+use crate::edges;
 use crate::rng::Rng;
 use crate::sheet::{self, GROUND, Sheet};
 use crate::{generate, plain, port, with_max01};
@@ -187,6 +188,34 @@ impl Library {
 pub fn sheet(seed: u64, n: usize) -> bool {
     let mut library = Library::new();
     let cover = cases(seed, n, |bytes, call| library.ask(bytes, call));
+    library.done() & cover.done()
+}
+
+/// The sheet library against the Rust at the limits of bodies, relations and rows, and on the sheets in these files.
+pub fn limits(files: &[&str]) -> bool {
+    let (mut library, mut cover) = (Library::new(), Cover::default());
+    cover.want_most();
+    let mut ask = |bytes: &[u8], call: Call| {
+        let before = edges::rounds();
+        let answer = library.ask(bytes, call);
+        let after = edges::rounds();
+        cover.most(bytes, call, &answer, [after[0] - before[0], after[1] - before[1]]);
+    };
+    for sheet in generate::counts() {
+        let bytes = sheet.bytes();
+        generate::exact_calls(&sheet, &[GROUND]).into_iter().for_each(|call| ask(&bytes, call));
+    }
+    let large = generate::large().into_iter();
+    let small = generate::limits(true).into_iter().map(|(_, sheet)| (sheet, vec![GROUND, 0]));
+    for (sheet, drags) in large.chain(small) {
+        let bytes = sheet.bytes();
+        generate::exact_calls(&sheet, &drags).into_iter().for_each(|call| ask(&bytes, call));
+    }
+    for file in files {
+        let bytes = std::fs::read(file).unwrap_or_else(|e| panic!("{file}: {e}"));
+        let sheet = sheet::read(&bytes).unwrap_or_else(|number| panic!("{file} is refused by {number}"));
+        generate::exact_calls(&sheet, &[GROUND, 1]).into_iter().for_each(|call| ask(&bytes, call));
+    }
     library.done() & cover.done()
 }
 

@@ -1,10 +1,19 @@
-//! What the comparisons must meet at the edges: lent lengths, drags, doubles at their limits.
+//! What the comparisons must meet at the edges: lent lengths, drags, doubles at their limits, the most bodies, relations and rows.
 //! Each function that begins with `want` enters its kinds at 0; the one after it counts them.
 
 use crate::answer::{Answer, Call, NAMES};
 use crate::cover::Cover;
 use crate::plain::Scene;
 use crate::sheet::*;
+use std::sync::atomic::Ordering;
+
+/// How many rounds the Rust has taken in all, and how many second runs.
+pub fn rounds() -> [u64; 2] {
+    ["lm::solve: round", "solve: tried again"].map(|counter| {
+        let at = tenon::NAMES.iter().position(|name| *name == counter).unwrap();
+        tenon::COVER[at].load(Ordering::Relaxed)
+    })
+}
 
 /// What a call is lent: each slice's name, its length, what it must be at least, and the number that a shorter one is refused by.
 fn slices(sheet: &Sheet, call: Call) -> Vec<(&'static str, usize, usize, u32)> {
@@ -69,6 +78,56 @@ impl Cover {
             if double.abs() == limit.next_up() && *answer == Err(7) && beside(-1).is_none() {
                 self.add(format!("{} refused 7, the double after {limit}", call.name()), 1);
             }
+        }
+    }
+
+    pub fn want_most(&mut self) {
+        for call in NAMES {
+            for size in ["64 bodies", "128 relations", "64 bodies and 128 relations"] {
+                self.add(format!("{call} accepted, {size}"), 0);
+            }
+            self.add(format!("{call} refused 3, 65 bodies"), 0);
+            self.add(format!("{call} refused 3, 129 relations"), 0);
+        }
+        for size in ["fewer bodies", "64 bodies and 128 relations"] {
+            self.add(format!("solve of 800 rows iterated, {size}"), 0);
+            self.add(format!("solve of 801 rows not iterated, {size}"), 0);
+        }
+        for how in ["converged", "converged by the second run", "not converged", "with drag"] {
+            self.add(format!("solve iterated, {how}, 64 bodies and 128 relations"), 0);
+        }
+    }
+    /// A call on a whole header and more, and how many rounds and second runs the Rust took for it.
+    pub fn most(&mut self, bytes: &[u8], call: Call, answer: &Result<Answer, u32>, [rounds, again]: [u64; 2]) {
+        let half = |at: usize| u16::from_le_bytes([bytes[at], bytes[at + 1]]) as usize;
+        let (m, k) = (half(2), half(4));
+        let (bodies, relations) = (m == MOST_BODIES, k == MOST_RELATIONS);
+        let name = call.name();
+        match answer {
+            Err(3) if m == MOST_BODIES + 1 && k <= MOST_RELATIONS => self.add(format!("{name} refused 3, 65 bodies"), 1),
+            Err(3) if m <= MOST_BODIES && k == MOST_RELATIONS + 1 => self.add(format!("{name} refused 3, 129 relations"), 1),
+            _ => {}
+        }
+        let Ok(answer) = answer else { return };
+        for (met, size) in [(bodies, "64 bodies"), (relations, "128 relations"), (bodies && relations, "64 bodies and 128 relations")] {
+            self.add(format!("{name} accepted, {size}"), met as u64);
+        }
+        let (Answer::Solve { converged, .. }, Call::Solve { drag, .. }) = (answer, call) else { return };
+        let size = if bodies && relations { "64 bodies and 128 relations" } else { "fewer bodies" };
+        match (Scene::of(&read(bytes).unwrap()).rows(), rounds) {
+            (800, 1..) => self.add(format!("solve of 800 rows iterated, {size}"), 1),
+            // Where the relations hold at the start, no number of rows is iterated.
+            (801, 0) if !converged => self.add(format!("solve of 801 rows not iterated, {size}"), 1),
+            _ => {}
+        }
+        if bodies && relations && rounds > 0 {
+            let how = match (converged, again) {
+                (true, 0) => "converged",
+                (true, _) => "converged by the second run",
+                _ => "not converged",
+            };
+            self.add(format!("solve iterated, {how}, {size}"), 1);
+            self.add(format!("solve iterated, with drag, {size}"), (drag != GROUND) as u64);
         }
     }
 }

@@ -440,6 +440,103 @@ pub fn limits(full: bool) -> Vec<(&'static str, Sheet)> {
     out
 }
 
+/// 64 bodies and 65, 128 relations and 129, with bytes to match.
+pub fn counts() -> Vec<Sheet> {
+    let body = Body { frame: [[0.0; 3], [1.0, 0.0, 0.0], [0.0, 1.0, 0.0], [0.0, 0.0, 1.0]], size: 2.0, ..Body::default() };
+    let point = End { prim: POINT, body: GROUND, ..End::default() };
+    let mate = Relation { ends: [point, point, End::default()], ..Relation::default() };
+    let counts = [(64, 0), (65, 0), (0, 128), (0, 129), (64, 128), (65, 128), (64, 129)];
+    counts.map(|(m, k)| Sheet { bodies: vec![body; m], relations: vec![mate; k] }).into()
+}
+
+/// Sheets of 64 bodies and 128 relations that take the Rust seconds, and the drags to solve them with.
+pub fn large() -> Vec<(Sheet, Vec<u16>)> {
+    let mut jammed = full(2, 0.01);
+    let insert = jammed.relations[INSERT as usize];
+    jammed.relations[MOST_RELATIONS - 1] = Relation { offset: insert.offset + 0.05, ..insert };
+    vec![
+        // Every law, near where all hold, and so far off that the second run alone finds the place.
+        (full(1, 0.01), vec![GROUND, 63]),
+        (full(3, 0.3), vec![GROUND]),
+        // An insert twice, 0.05 mm apart.
+        (jammed, vec![GROUND]),
+        // 800 rows and 801.
+        (most_rows([PLANE, LINE]), vec![7]),
+        (most_rows([POINT, POINT]), vec![GROUND, 7]),
+    ]
+}
+
+/// 64 bodies and 128 relations by seed. `choose` gives a relation's kind by its number. The first relations tie each body to an
+/// earlier one or to the ground, the others any two. All hold together, and all bodies but two fixed ones stand off that place by
+/// up to `off` millimetres and radians.
+fn crowd(seed: u64, off: f64, mut choose: impl FnMut(&mut Rng, usize) -> Kind) -> Sheet {
+    let mut rng = Rng(seed);
+    let mut maker = Maker { rng: &mut rng, style: Style::Any, bodies: Vec::new() };
+    maker.bodies = (0..MOST_BODIES).map(|_| maker.body()).collect();
+    let place = |b: &Body| -> [f64; 12] {
+        let [o, x, y, z] = b.frame;
+        let row = |i: usize| [x[i], y[i], z[i]];
+        [row(0), row(1), row(2), o].concat().try_into().unwrap()
+    };
+    let poses: Vec<[f64; 12]> = maker.bodies.iter().map(place).collect();
+    let mut relations = Vec::new();
+    while relations.len() < MOST_RELATIONS {
+        let i = relations.len();
+        let b = if i < MOST_BODIES { i } else { maker.rng.below(MOST_BODIES) };
+        let other = |rng: &mut Rng| if b == 0 || rng.one_in(8) { GROUND } else { rng.below(b) as u16 };
+        let ends = [other(maker.rng), b as u16, other(maker.rng)];
+        let kind = choose(maker.rng, i);
+        let relation = maker.relation(kind, ends);
+        if tenon::lm::max_abs(&crate::plain::rows(&relation, &poses)) < 1e-10 {
+            relations.push(relation);
+        }
+    }
+    let mut bodies = maker.bodies.clone();
+    for (i, b) in bodies.iter_mut().enumerate() {
+        let center = crate::plain::vec3(b.center);
+        let r = M3::exp(maker.direction() * maker.rng.range(0.0, off));
+        let t = center - r.apply(center) + maker.direction() * maker.rng.range(0.0, off);
+        if i % 40 == 0 {
+            b.fixed = 1;
+        } else {
+            moved(b, &Motion { r, t });
+        }
+    }
+    let mut sheet = Sheet { bodies, relations };
+    limited(&mut sheet);
+    sheet
+}
+
+/// The laws in turn, with any joint, flag and pair that suits, and a few that do not.
+fn full(seed: u64, off: f64) -> Sheet {
+    let kinds = kinds();
+    let suits = |k: &Kind| {
+        let r = Relation { law: k.law, ends: k.prims.map(|prim| End { prim, ..End::default() }), ..Relation::default() };
+        let rel = rel_of(&r);
+        solve::check(&rel.law, &rel.a.prim, &rel.b.prim).is_ok()
+    };
+    crowd(seed, off, |rng, i| {
+        loop {
+            let kind = rng.pick(&kinds);
+            if kind.law as usize == i % 7 && (suits(&kind) || rng.one_in(100)) {
+                return kind;
+            }
+        }
+    })
+}
+
+/// 114 rigid joints of 7 rows, one mate, and 13 flush points, which have no rows.
+fn most_rows(last: [u8; 2]) -> Sheet {
+    crowd(7, 0.01, |_, i| {
+        let (law, [a, b]) = match i {
+            0..114 => (JOINT, [PLANE, PLANE]),
+            114 => (MATE, last),
+            _ => (FLUSH, [POINT, POINT]),
+        };
+        Kind { law, joint: 0, flag: 0, prims: [a, b, PLANE] }
+    })
+}
+
 const ODD_DOUBLES: [u64; 10] = [
     0x8000000000000000, // −0
     0x7FF8000000000000, // NaN
@@ -621,4 +718,27 @@ pub fn calls_on_one() -> [Call; 5] {
         Call::Solve { drag: GROUND, scratch: 300, poses: 12, frames: 12, errors: 1 },
         Call::Dof { scratch: 300, freedoms: 29 },
     ]
+}
+
+/// Calls with exact lengths: those of every relation and of the number after the last, `solve` with each drag, and `dof`; and `solve`
+/// and `dof` with each slice one double short.
+pub fn exact_calls(sheet: &Sheet, drags: &[u16]) -> Vec<Call> {
+    let scene = Scene::of(sheet);
+    let (m, k) = (sheet.bodies.len(), sheet.relations.len());
+    let mut out = Vec::new();
+    for relation in 0..=k as u16 {
+        out.extend([Call::Judge { relation }, Call::Reading { relation }, Call::Snap { relation, motion: 12 }]);
+    }
+    let need = [scene.solve_scratch(), 12 * m, 12 * m, k];
+    let solve = |drag: u16, [scratch, poses, frames, errors]: [usize; 4]| Call::Solve { drag, scratch, poses, frames, errors };
+    out.extend(drags.iter().map(|drag| solve(*drag, need)));
+    for i in 0..4 {
+        let mut short = need;
+        short[i] = short[i].saturating_sub(1);
+        out.push(solve(GROUND, short));
+    }
+    let (scratch, freedoms) = (scene.dof_scratch(), 29 * m);
+    out.extend([Call::Dof { scratch, freedoms }, Call::Dof { scratch, freedoms: freedoms.saturating_sub(1) }]);
+    out.push(Call::Dof { scratch: scratch.saturating_sub(1), freedoms });
+    out
 }

@@ -37,6 +37,7 @@ oracle arcs N                 the linked root, sine, cosine and arctangent on ab
 oracle bench                  time per call of the linked arcs and root beside Rust's own
 oracle bench FILE..           time of the linked `solve` and `dof` on these sheets beside the Rust's
 oracle sheet SEED N           the linked sheet library against the Rust on N valid and N damaged sheets
+oracle limits FILE..          the same at the limits of bodies, relations and rows, and on the sheets in these files
 oracle run-report PROGRAM SEED N    the program report against the Rust
 oracle lists DIR [SCALE]      the frozen lists (FORMATS.md); SCALE above 1 makes longer ones";
 
@@ -57,6 +58,7 @@ fn main() {
         ["cover", seed, n] => compare::max_and_cover(number(seed) as u64, number(n)),
         ["arcs", n] => compare::arcs(number(n)),
         ["sheet", seed, n] => compare::sheet(number(seed) as u64, number(n)),
+        ["limits", ref files @ ..] => compare::limits(files),
         ["run-report", program, seed, n] => compare::report(program, number(seed) as u64, number(n)),
         ["bench"] => bench::run(),
         ["bench", ref files @ ..] => bench::sheets(files),
