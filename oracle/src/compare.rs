@@ -223,13 +223,15 @@ pub fn limits(files: &[&str]) -> bool {
 pub fn report(program: &str, seed: u64, n: usize) -> bool {
     use std::io::Write;
     use std::process::{Command, Stdio};
-    let mut tally = Tally::new("report");
+    let (mut tally, mut cover) = (Tally::new("report"), Cover::default());
+    cover.want_report();
     let mut run = |input: &[u8]| {
         let mut child = Command::new(program).stdin(Stdio::piped()).stdout(Stdio::piped()).spawn().expect("cannot run report");
         child.stdin.take().unwrap().write_all(input).ok();
         let out = child.wait_with_output().unwrap();
         let want = plain::report(input);
         tally.case(out.stdout == want.as_bytes(), || format!("expected\n{want}given\n{}", String::from_utf8_lossy(&out.stdout)));
+        cover.report(input, &want);
     };
     let mut rng = Rng(seed);
     for i in 0..n {
@@ -237,13 +239,13 @@ pub fn report(program: &str, seed: u64, n: usize) -> bool {
         run(&sheet.bytes());
         run(&generate::damaged(&mut rng, &sheet));
     }
-    for (_, sheet) in generate::limits(false) {
-        run(&sheet.bytes());
-    }
+    let limits = generate::limits(true).into_iter().map(|(_, sheet)| sheet);
+    let sheets = limits.chain(generate::counts()).chain(generate::large().into_iter().map(|(sheet, _)| sheet)).chain(generate::scratch_of_report());
+    sheets.for_each(|sheet| run(&sheet.bytes()));
     let full = Sheet { bodies: vec![sheet::Body::default(); 64], relations: vec![sheet::Relation::default(); 128] }.bytes();
     for extra in [0, 1, 2, 1000] {
         run(&[&full[..], &vec![0; extra]].concat());
     }
     run(&[]);
-    tally.done()
+    tally.done() & cover.done()
 }

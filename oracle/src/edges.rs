@@ -130,4 +130,38 @@ impl Cover {
             self.add(format!("solve iterated, with drag, {size}"), (drag != GROUND) as u64);
         }
     }
+
+    pub fn want_report(&mut self) {
+        self.add("report accepted".into(), 0);
+        (1..=7).chain([9]).for_each(|number| self.add(format!("report refused {number}"), 0));
+        for what in ["64 bodies and 128 relations", "8192 doubles for solve", "8192 doubles for dof"] {
+            self.add(format!("report accepted, {what}"), 0);
+        }
+        for what in ["64 bodies and 128 relations", "8194 doubles for solve", "8194 doubles for dof alone"] {
+            self.add(format!("report refused 9, {what}"), 0);
+        }
+        self.add("report refused 4, input too long".into(), 0);
+    }
+    /// An input of `report` and what it is to print. Every scratch that `solve` and `dof` need is even: 8194 is the next after 8192.
+    pub fn report(&mut self, input: &[u8], text: &str) {
+        let said = text.lines().next().unwrap();
+        let said = if said.starts_with("refused") { said } else { "accepted" };
+        self.add(format!("report {said}"), 1);
+        if input.len() > 42_521 {
+            self.add(format!("report {said}, input too long"), 1);
+        }
+        let Ok(sheet) = read(input) else { return };
+        let (solve, dof) = (Scene::of(&sheet).solve_scratch(), Scene::of(&sheet).dof_scratch());
+        for (met, what) in [
+            (sheet.bodies.len() == MOST_BODIES && sheet.relations.len() == MOST_RELATIONS, "64 bodies and 128 relations"),
+            (solve == 8192, "8192 doubles for solve"),
+            (dof == 8192, "8192 doubles for dof"),
+            (solve == 8194, "8194 doubles for solve"),
+            (solve <= 8192 && dof == 8194, "8194 doubles for dof alone"),
+        ] {
+            if met {
+                self.add(format!("report {said}, {what}"), 1);
+            }
+        }
+    }
 }

@@ -537,6 +537,28 @@ fn most_rows(last: [u8; 2]) -> Sheet {
     })
 }
 
+/// Sheets about the 8192 doubles that `report` lends: 8192 for `solve` and for `dof`, 8194 for `solve`, 8194 for `dof` alone, and
+/// 64 bodies with 128 relations that need less. Each has so many mates of one row on so many bodies, out of so many bodies and relations.
+pub fn scratch_of_report() -> Vec<Sheet> {
+    let mut rng = Rng(6);
+    let mut made = |(rows, named, m, k): (usize, usize, usize, usize)| {
+        let mut maker = Maker { rng: &mut rng, style: Style::Any, bodies: Vec::new() };
+        maker.bodies = (0..m).map(|_| maker.body()).collect();
+        let kind = |law, a| Kind { law, joint: 0, flag: 0, prims: [a, POINT, PLANE] };
+        let relations = (0..k).map(|i| {
+            let kind = if i < rows { kind(MATE, PLANE) } else { kind(FLUSH, POINT) };
+            maker.relation(kind, [GROUND, (i % named) as u16, GROUND])
+        });
+        let relations = relations.collect();
+        let mut bodies = maker.bodies.clone();
+        bodies.iter_mut().for_each(|b| moved(b, &Motion { r: M3::exp(maker.direction() * 0.02), t: maker.direction() * 0.1 }));
+        let mut sheet = Sheet { bodies, relations };
+        limited(&mut sheet);
+        sheet
+    };
+    [(48, 8, 16, 48), (55, 4, 6, 55), (11, 9, 39, 11), (40, 5, 64, 128)].map(&mut made).into()
+}
+
 const ODD_DOUBLES: [u64; 10] = [
     0x8000000000000000, // −0
     0x7FF8000000000000, // NaN
