@@ -161,7 +161,7 @@ class Seen:
     def report(self, what):
         top = max(self.worst.values(), default=Fraction(0))
         print(f"{what}: {self.count} relations, largest distance {float(top):.3g} (limit {LIMIT:g})")
-        return top <= Fraction(LIMIT)
+        return self.count > 0 and top <= Fraction(LIMIT)
 
 
 def list_of_rows(path):
