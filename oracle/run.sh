@@ -1,19 +1,46 @@
 #!/usr/bin/env bash
-# Builds the oracle, checks it against document 01's examples and compares with it what of the port is at hand:
-# target/staticlib/libarcs.a and libsheet.a (rt staticlib arcs, rt staticlib sheet) and target/bin/report.
-# Takes under three minutes. Ends with 0 if nothing differs, or if tenon's sources are not at hand.
+# Compares the port with the Rust: the arcs and the root of target/staticlib/libarcs.a, the five calls of libsheet.a beside it, and the
+# program target/bin/report. Each must be there and built after the last change of the crates' sources. The oracle is built from
+# tenon's unchanged sources (build.sh) and held to document 01's examples and to the frozen lists. Every comparison prints how much it
+# compared. Ends with 0 if nothing differs and every kind of case that is wanted was met.
+# Where tenon's sources or rustc are missing it says that nothing was compared, and ends with 0, or with 1 if CI is set.
+# Takes two minutes on two cores.
 set -u
 cd "$(dirname "$0")" || exit 2
-source_dir=${TENON_SRC:-$(realpath -m ../../shared/docs/src)}
-if [ ! -f "$source_dir/crates/assembly/src/solve.rs" ] || ! command -v rustc >/dev/null; then
-    echo "oracle: NOT RUN, no tenon sources in $source_dir or no rustc; nothing was compared with the Rust"
-    exit 0
-fi
 failed=0
-step() {
-    echo "== $*"
-    "$@" || { echo "oracle: FAILED: $*"; failed=1; }
+fail() {
+    echo "oracle: $*" >&2
+    failed=1
 }
+
+# Fails unless FILE is there and no source is newer; COMMAND builds it.
+built() { # FILE COMMAND
+    local newer
+    if [ ! -f "../$1" ]; then
+        fail "no $1 ($2)"
+    else
+        newer=$(find ../crates/*/src ../crates/*/specs ../crates/*/proofs -type f -newer "../$1" -print -quit)
+        [ -z "$newer" ] || fail "$1 is older than ${newer#../} ($2)"
+    fi
+}
+built target/staticlib/libarcs.a "rt staticlib arcs"
+built target/staticlib/libsheet.a "rt staticlib sheet"
+built target/bin/report "rm -f target/stamp/report; rt check report"
+
+source_dir=${TENON_SRC:-$(realpath -m ../../shared/docs/src)}
+missing=
+[ -f "$source_dir/crates/assembly/src/solve.rs" ] || missing="no tenon sources in $source_dir"
+command -v rustc >/dev/null || missing="${missing:+$missing, }no rustc"
+if [ -n "$missing" ]; then
+    if [ -n "${CI:-}" ]; then
+        fail "$missing, and CI is set"
+    else
+        echo "oracle: $missing: nothing was compared with the Rust"
+        exit $failed
+    fi
+fi
+[ $failed -eq 0 ] || exit 1
+
 # Makes the frozen lists again: each stands in one program's data, the same, and that program says that it replays it; no other list stands there.
 same_lists() {
     local list name copy copies same=0 records=0 wrong=0
@@ -34,20 +61,59 @@ same_lists() {
     echo "frozen lists made again: $same the same, $records records, $wrong wrong"
     [ $wrong -eq 0 ] && [ $same -gt 0 ]
 }
-covered() { build/oracle cover 1 "$1" | grep -A20 "^reached"; return "${PIPESTATUS[0]}"; }
+# The exact rows are worked on the lists that were just made.
+lists_and_rows() {
+    local good=0
+    same_lists || good=1
+    python3 exact_rows.py build/lists 1 2000 || good=1
+    return $good
+}
+# With the example sheets, and the one of 64 bodies and 128 relations that make.py writes beside them.
+limits() {
+    mkdir -p build/examples
+    python3 ../examples/make.py build/examples >/dev/null && build/oracle limits ../examples/*.sheet build/examples/full.sheet
+}
 
-./build.sh || exit 1
-step ./measure.sh
+# Starts a step, as many at a time as there are processors. What it says is printed, in the order of starting, once it has ended.
+steps=() shown=0 processors=$(nproc 2>/dev/null || echo 1)
+step() { # COMMAND..
+    local at=build/steps/${#steps[@]}
+    while [ "$(jobs -rp | wc -l)" -ge "$processors" ]; do
+        wait -n
+        show
+    done
+    steps+=("$*")
+    (
+        begin=$SECONDS
+        "$@" >"$at.out" 2>&1
+        echo "$? $((SECONDS - begin))" >"$at.begun"
+        mv "$at.begun" "$at.end"
+    ) &
+}
+show() {
+    local status took
+    while [ -f "build/steps/$shown.end" ]; do
+        read -r status took <"build/steps/$shown.end"
+        echo "== ${steps[shown]} ($took s)"
+        cat "build/steps/$shown.out"
+        [ "$status" -eq 0 ] || fail "FAILED: ${steps[shown]}"
+        shown=$((shown + 1))
+    done
+}
+
+./build.sh || { fail "FAILED: build.sh"; exit 1; }
+echo "oracle: built ($SECONDS s)"
+rm -rf build/steps
+mkdir -p build/steps
 step build/oracle examples
-step same_lists
-step covered 700
+step ./measure.sh
+step build/oracle sheet 2 8000
+step limits
+step build/oracle run-report ../tools/report.sh 3 300
+step lists_and_rows
 step build/oracle arcs 2000000
-step build/oracle sheet 2 400
-if [ -x ../target/bin/report ]; then
-    step build/oracle run-report ../tools/report.sh 3 300
-else
-    echo "report: no target/bin/report, nothing compared"
-fi
-step python3 exact_rows.py build/lists 1 2000
-[ $failed -eq 0 ] && echo "oracle: nothing differs"
+wait
+show
+[ "$shown" -eq "${#steps[@]}" ] || fail "FAILED: ${steps[shown]} did not end"
+[ $failed -eq 0 ] && echo "oracle: nothing differs ($SECONDS s)"
 exit $failed
