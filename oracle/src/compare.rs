@@ -147,17 +147,24 @@ pub fn arcs(n: usize) -> bool {
     (0..n / 10).for_each(|_| one(1.0 + rng.range(-1.1e-8, 1.1e-8)));
     [sine, cosine, arctangent, root].iter().fold(true, |good, tally| tally.done() & good)
 }
+/// Keeps what was given to the two sides that differ, and says where.
+fn kept(name: &str, bytes: &[u8]) -> String {
+    let file = format!("build/differs-{name}.sheet");
+    std::fs::write(&file, bytes).map_or_else(|e| e.to_string(), |()| format!("kept as {file}"))
+}
+
 /// The sheet library beside the Rust: one scratch for all calls, never cleared, and what was compared.
 struct Library {
+    run: &'static str,
     scratch: Vec<f64>,
     tallies: [Tally; 5],
     by_max: u64,
 }
 
 impl Library {
-    fn new() -> Library {
+    fn new(run: &'static str) -> Library {
         let names = ["sheet_judge", "sheet_joint_reading", "sheet_snap", "sheet_solve", "sheet_dof"];
-        Library { scratch: Vec::new(), tallies: names.map(Tally::new), by_max: 0 }
+        Library { run, scratch: Vec::new(), tallies: names.map(Tally::new), by_max: 0 }
     }
 
     /// Compares answer or refusal, and what must stay as it was; gives the Rust's answer.
@@ -170,11 +177,8 @@ impl Library {
             same = true;
         }
         let tally = &mut self.tallies[call.number()];
-        let file = format!("build/differs-{}.sheet", tally.what);
-        tally.case(same, || {
-            std::fs::write(&file, bytes).ok();
-            format!("{call:?}, the sheet kept as {file}, expected\n{}", text(call, &answer))
-        });
+        let name = format!("{}-{}-{}", self.run, tally.what, tally.differ);
+        tally.case(same, || format!("{call:?}, {}, expected\n{}", kept(&name, bytes), text(call, &answer)));
         answer
     }
 
@@ -186,14 +190,14 @@ impl Library {
 
 /// The sheet library against the Rust on the cases of a seed.
 pub fn sheet(seed: u64, n: usize) -> bool {
-    let mut library = Library::new();
+    let mut library = Library::new("seed");
     let cover = cases(seed, n, |bytes, call| library.ask(bytes, call));
     library.done() & cover.done()
 }
 
 /// The sheet library against the Rust at the limits of bodies, relations and rows, and on the sheets in these files.
 pub fn limits(files: &[&str]) -> bool {
-    let (mut library, mut cover) = (Library::new(), Cover::default());
+    let (mut library, mut cover) = (Library::new("limits"), Cover::default());
     cover.want_most();
     let mut ask = |bytes: &[u8], call: Call| {
         let before = edges::rounds();
@@ -230,7 +234,10 @@ pub fn report(program: &str, seed: u64, n: usize) -> bool {
         child.stdin.take().unwrap().write_all(input).ok();
         let out = child.wait_with_output().unwrap();
         let want = plain::report(input);
-        tally.case(out.stdout == want.as_bytes(), || format!("expected\n{want}given\n{}", String::from_utf8_lossy(&out.stdout)));
+        let name = format!("report-{}", tally.differ);
+        tally.case(out.status.success() && out.stdout == want.as_bytes(), || {
+            format!("{}, {}, expected\n{want}given\n{}", kept(&name, input), out.status, String::from_utf8_lossy(&out.stdout))
+        });
         cover.report(input, &want);
     };
     let mut rng = Rng(seed);
