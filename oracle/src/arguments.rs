@@ -1,6 +1,4 @@
 //! Arguments for the arcs and the root: every boundary first, then a spread by seed.
-// Where no libarcs.a is at hand the lists ask for angles alone.
-#![cfg_attr(not(linked), allow(dead_code))]
 
 use crate::rng::Rng;
 use arcs::rule::{E, H, P, T, TURN, bounds};
