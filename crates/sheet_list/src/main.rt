@@ -29,6 +29,12 @@ enum List {
     Relations,
 }
 
+// How many records or calls follow. A list that is out of step, as after a wrong answer, may give any number here: none follow then, and the counts differ.
+fn how_many(fd: i32) -> u64 {
+    let n = word(fd);
+    if n > 0xFFFF { 0 } else { n }
+}
+
 // Reads n bytes, unless the list ends before them.
 fn filled(fd: i32, s: &mut [u8], n: usize) -> bool
     requires { ⌜ n ≤ length (now s) ⌝ }
@@ -126,7 +132,7 @@ fn next_call(fd: i32) -> Call {
 
 // The calls of a sheet.
 fn calls(fd: i32, s: &[u8], scratch: &mut [f64]) -> Tally {
-    let n = word(fd);
+    let n = how_many(fd);
     let mut wrong = 0u64;
     let mut i = 0u64;
     while i < n {
@@ -175,7 +181,7 @@ fn changed(fd: i32, sheet: [u8; 424]) -> bool {
 fn fields(fd: i32) -> Tally {
     let mut s = [0u8; 424];
     filled(fd, &mut s, 424);
-    let n = word(fd);
+    let n = how_many(fd);
     let mut wrong = 0u64;
     let mut i = 0u64;
     while i < n {
@@ -231,7 +237,7 @@ fn record(fd: i32, k: List, scratch: &mut [f64]) -> Tally {
 }
 
 fn replay(fd: i32, k: List, scratch: &mut [f64]) -> Tally {
-    let n = word(fd);
+    let n = how_many(fd);
     let mut answers = 0u64;
     let mut wrong = 0u64;
     let mut i = 0u64;

@@ -12,8 +12,8 @@ Inv-loop fd s scratch₀ n wrong₀ i₀ scratch wrong i = (i ≤ n) × (length 
 abbrev μ-loop : tie.MeasureT-loop
 μ-loop fd s scratch₀ n wrong₀ i₀ scratch wrong i = n - i
 
-word-requires : tie.Need-word-requires Inv-loop μ-loop
-word-requires c κs = tt
+how-many-requires : tie.Need-how-many-requires Inv-loop μ-loop
+how-many-requires c κs = tt
 
 loop-holds : tie.Need-loop-holds Inv-loop μ-loop
 loop-holds c = (omega arith, refl)
@@ -48,7 +48,7 @@ calls-spec =
     (tie.spec
     Inv-loop
     μ-loop
-    word-requires
+    how-many-requires
     loop-holds
     next-call-requires
     right-requires

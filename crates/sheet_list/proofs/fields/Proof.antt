@@ -17,8 +17,8 @@ slice-aggregate-filled c = omega arith
 filled-requires : tie.Need-filled-requires Inv-loop μ-loop
 filled-requires c κs = search needs
 
-word-requires : tie.Need-word-requires Inv-loop μ-loop
-word-requires c κs = search needs
+how-many-requires : tie.Need-how-many-requires Inv-loop μ-loop
+how-many-requires c κs = search needs
 
 loop-holds : tie.Need-loop-holds Inv-loop μ-loop
 loop-holds c = omega arith
@@ -49,7 +49,7 @@ fields-spec =
     μ-loop
     slice-aggregate-filled
     filled-requires
-    word-requires
+    how-many-requires
     loop-holds
     changed-requires
     wrapping-add-u64-requires
