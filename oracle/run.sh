@@ -4,7 +4,7 @@
 # tenon's unchanged sources (build.sh) and held to document 01's examples and to the frozen lists. Every comparison prints how much it
 # compared. Ends with 0 if nothing differs and every kind of case that is wanted was met.
 # Where tenon's sources or rustc are missing it says that nothing was compared, and ends with 0, or with 1 if CI is set.
-# Takes two minutes on two cores.
+# Takes 60 to 110 s on two cores, by what else they do.
 set -u
 cd "$(dirname "$0")" || exit 2
 failed=0
