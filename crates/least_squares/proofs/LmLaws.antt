@@ -148,37 +148,37 @@ rows-all o s n rows a w h e = table-ext (normalAt (part o 0 (rows * n)) (part o 
     (λ i k l m. entry-at s a rows i k l m ∙ e i k l m)
 
 -- a column of the slopes times y, in memory
-abbrev pub columnTerm : List Float → ℕ → ℕ → ℕ → ℕ → Float
-columnTerm s n y c i = mul binary64 (getD s (i * n + c) nan) (getD s (y + i) nan)
+abbrev pub columnTerm : List Float → ℕ → ℕ → ℕ → ℕ → ℕ → Float
+columnTerm s o n y c i = mul binary64 (getD s (o + (i * n + c)) nan) (getD s (y + i) nan)
 
-pub stepped-is : (s : List Float) (n rows x w y c : ℕ) → c < n → x + n ≤ length s
-    → sub binary64 (getD s (x + c) nan) (mul binary64 (getD s (w + c) nan) (sumFrom zero64 (columnTerm s n y c) rows))
-    ≡ steppedAt (part s x n) (part s 0 (rows * n)) (part s w n) (part s y rows) rows c
+pub stepped-is : (s : List Float) (n rows x o w y c : ℕ) → c < n → x + n ≤ length s
+    → sub binary64 (getD s (x + c) nan) (mul binary64 (getD s (w + c) nan) (sumFrom zero64 (columnTerm s o n y c) rows))
+    ≡ steppedAt (part s x n) (part s o (rows * n)) (part s w n) (part s y rows) rows c
 unfolding steppedAt
-stepped-is s n rows x w y c h l =
+stepped-is s n rows x o w y c h l =
     let e : length (part s x n) ≡ n = part-length s x n l in
     λ j.
     sub binary64 (sym (part-at s x n c nan h) j)
-    (mul binary64 (sym (part-at s w n c nan h) j) (sum-same zero64 (columnTerm s n y c) (λ i. mul binary64 (getD (part s 0 (rows * n)) (i * length (part s x n) + c) nan) (getD (part s y rows) i nan)) rows (same e) j))
+    (mul binary64 (sym (part-at s w n c nan h) j) (sum-same zero64 (columnTerm s o n y c) (λ i. mul binary64 (getD (part s o (rows * n)) (i * length (part s x n) + c) nan) (getD (part s y rows) i nan)) rows (same e) j))
   where
     same : length (part s x n) ≡ n → (i : ℕ) → i < rows
-        → columnTerm s n y c i ≡ mul binary64 (getD (part s 0 (rows * n)) (i * length (part s x n) + c) nan) (getD (part s y rows) i nan)
+        → columnTerm s o n y c i ≡ mul binary64 (getD (part s o (rows * n)) (i * length (part s x n) + c) nan) (getD (part s y rows) i nan)
     same e i m =
-        let q : getD (part s 0 (rows * n)) (i * length (part s x n) + c) nan ≡ getD s (i * n + c) nan =
-        ap (λ (z : ℕ). getD (part s 0 (rows * n)) (i * z + c) nan) e ∙ part-at s 0 (rows * n) (i * n + c) nan (in-rows i c n rows m h) ∙ ap (λ (z : ℕ). getD s z nan) (zero-add (i * n + c)) in
+        let q : getD (part s o (rows * n)) (i * length (part s x n) + c) nan ≡ getD s (o + (i * n + c)) nan =
+        ap (λ (z : ℕ). getD (part s o (rows * n)) (i * z + c) nan) e ∙ part-at s o (rows * n) (i * n + c) nan (in-rows i c n rows m h) in
         λ j. mul binary64 (sym q j) (sym (part-at s y rows i nan m) j)
 
 -- one more unknown of the step
-pub step-step : (o s t : List Float) (n rows x w y z c : ℕ) (v : Float) → c < n → rows * n ≤ z → x + n ≤ z → w + n ≤ z → y + rows ≤ z → z + n ≤ length o
+pub step-step : (o s t : List Float) (n rows x a w y z c : ℕ) (v : Float) → c < n → a + rows * n ≤ z → x + n ≤ z → w + n ≤ z → y + rows ≤ z → z + n ≤ length o
     → Kept o s z (z + n)
-    → ((j : ℕ) → j < c → getD s (z + j) nan ≡ steppedAt (part o x n) (part o 0 (rows * n)) (part o w n) (part o y rows) rows j)
-    → v ≡ steppedAt (part s x n) (part s 0 (rows * n)) (part s w n) (part s y rows) rows c
+    → ((j : ℕ) → j < c → getD s (z + j) nan ≡ steppedAt (part o x n) (part o a (rows * n)) (part o w n) (part o y rows) rows j)
+    → v ≡ steppedAt (part s x n) (part s a (rows * n)) (part s w n) (part s y rows) rows c
     → t ≡ set s (z + c) v
-    → Kept o t z (z + n) × ((j : ℕ) → j < c + 1 → getD t (z + j) nan ≡ steppedAt (part o x n) (part o 0 (rows * n)) (part o w n) (part o y rows) rows j)
-step-step o s t n rows x w y z c v h a b d f g r e q p =
-    let E = steppedAt (part o x n) (part o 0 (rows * n)) (part o w n) (part o y rows) rows in
+    → Kept o t z (z + n) × ((j : ℕ) → j < c + 1 → getD t (z + j) nan ≡ steppedAt (part o x n) (part o a (rows * n)) (part o w n) (part o y rows) rows j)
+step-step o s t n rows x a w y z c v h m b d f g r e q p =
+    let E = steppedAt (part o x n) (part o a (rows * n)) (part o w n) (part o y rows) rows in
     let k0 = kept-part-below o s z (z + n) x n b r in
-    let k1 = kept-part-below o s z (z + n) 0 (rows * n) (omega arith) r in
+    let k1 = kept-part-below o s z (z + n) a (rows * n) m r in
     let k2 = kept-part-below o s z (z + n) w n d r in
     let k3 = kept-part-below o s z (z + n) y rows f r in
     let u = r .size in
@@ -191,12 +191,12 @@ list-ext f n l e h =
     ext-getD nan l (listOf f n) (e ∙ sym (length-listOf f n)) (λ i m. h i (rw (← e) m) ∙ sym (getD-listOf f n i nan (rw (← e) m)))
 
 -- all unknowns are the step
-pub step-all : (o s : List Float) (n rows x w y z : ℕ) → x + n ≤ length o → z + n ≤ length s
-    → ((j : ℕ) → j < n → getD s (z + j) nan ≡ steppedAt (part o x n) (part o 0 (rows * n)) (part o w n) (part o y rows) rows j)
-    → part s z n ≡ stepped (part o x n) (part o 0 (rows * n)) (part o w n) (part o y rows) rows
+pub step-all : (o s : List Float) (n rows x a w y z : ℕ) → x + n ≤ length o → z + n ≤ length s
+    → ((j : ℕ) → j < n → getD s (z + j) nan ≡ steppedAt (part o x n) (part o a (rows * n)) (part o w n) (part o y rows) rows j)
+    → part s z n ≡ stepped (part o x n) (part o a (rows * n)) (part o w n) (part o y rows) rows
 unfolding stepped
-step-all o s n rows x w y z h l e =
+step-all o s n rows x a w y z h l e =
     list-ext E n (part s z n) (part-length s z n l) (λ i m. part-at s z n i nan m ∙ e i m) ∙ ap (listOf E) (sym (part-length o x n h))
   where
     E : ℕ → Float
-    E = steppedAt (part o x n) (part o 0 (rows * n)) (part o w n) (part o y rows) rows
+    E = steppedAt (part o x n) (part o a (rows * n)) (part o w n) (part o y rows) rows

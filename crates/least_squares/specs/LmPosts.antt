@@ -26,7 +26,7 @@ pub record Damped (s t : List Float) (a rows : ℕ) (d : Float) : Type 0 where
   pub matrix : part t a (rows * rows) ≡ dampTo (part s a (rows * rows)) rows d rows
   pub kept : Kept s t a (a + rows * rows)
 
--- the unknowns at x after the step by y, at z; slopes at 0, inverse weights at w
-pub record Stepped (s t : List Float) (n rows x w y z : ℕ) : Type 0 where
-  pub unknowns : part t z n ≡ stepped (part s x n) (part s 0 (rows * n)) (part s w n) (part s y rows) rows
+-- the unknowns at x after the step by y, at z; slopes at j, inverse weights at w
+pub record Stepped (s t : List Float) (n rows x j w y z : ℕ) : Type 0 where
+  pub unknowns : part t z n ≡ stepped (part s x n) (part s j (rows * n)) (part s w n) (part s y rows) rows
   pub kept : Kept s t z (z + n)

@@ -77,14 +77,14 @@ fn matrix_row(s: &mut [f64], i: usize, n: usize, rows: usize, a: usize, w: usize
     }
 }
 
-// J W⁻¹ Jᵀ.
-pub fn matrix(s: &mut [f64], n: usize, rows: usize, a: usize, w: usize)
+// J W⁻¹ Jᵀ: the slopes stand in the first places, the matrix directly behind them, the inverse weights directly behind the matrix.
+pub fn matrix(s: &mut [f64], n: usize, rows: usize)
     requires { ⌜ (rows ≤ 800) × (n ≤ 384) ⌝ }
-    requires { ⌜ rows * n ≤ a ⌝ }
-    requires { ⌜ a + rows * rows ≤ w ⌝ }
-    requires { ⌜ w + n ≤ length (now s) ⌝ }
-    ensures { λ _. ⌜ Matrix (now (s .entry)) (now (s .exit)) n rows a w ⌝ }
+    requires { ⌜ rows * n + rows * rows + n ≤ length (now s) ⌝ }
+    ensures { λ _. ⌜ Matrix (now (s .entry)) (now (s .exit)) n rows (rows * n) (rows * n + rows * rows) ⌝ }
 {
+    let a = rows * n;
+    let w = a + rows * rows;
     for i in 0..rows {
         matrix_row(s, i, n, rows, a, w);
     }
@@ -125,33 +125,42 @@ pub fn damp(s: &mut [f64], a: usize, rows: usize, d: f64)
     }
 }
 
-// The unknown c after the step: x less its inverse weight times column c of the slopes at 0 times y.
-fn stepped_at(s: &[f64], n: usize, rows: usize, x: usize, w: usize, y: usize, c: usize) -> f64
+// The unknown c after the step: x less its inverse weight times column c of the slopes at j times y.
+fn stepped_at(
+    s: &[f64],
+    n: usize,
+    rows: usize,
+    x: usize,
+    j: usize,
+    w: usize,
+    y: usize,
+    c: usize,
+) -> f64
     requires { ⌜ (rows ≤ 800) × (n ≤ 384) ⌝ }
     requires { ⌜ c < n ⌝ }
-    requires { ⌜ rows * n ≤ length (now s) ⌝ }
+    requires { ⌜ j + rows * n ≤ length (now s) ⌝ }
     requires { ⌜ (x + n ≤ length (now s)) × (w + n ≤ length (now s)) ⌝ }
     requires { ⌜ y + rows ≤ length (now s) ⌝ }
-    ensures { λ r. ⌜ r ≡ spec.steppedAt (part (now (s .entry)) x n) (part (now (s .entry)) 0 (rows * n)) (part (now (s .entry)) w n) (part (now (s .entry)) y rows) rows c ⌝ }
+    ensures { λ r. ⌜ r ≡ spec.steppedAt (part (now (s .entry)) x n) (part (now (s .entry)) j (rows * n)) (part (now (s .entry)) w n) (part (now (s .entry)) y rows) rows c ⌝ }
 {
     let mut t = 0.0;
     for i in 0..rows {
-        t = t + s[i * n + c] * s[y + i];
+        t = t + s[j + (i * n + c)] * s[y + i];
     }
     s[x + c] - s[w + c] * t
 }
 
-// The unknowns after the step, at z, which stands behind all that they are made of.
-pub fn step(s: &mut [f64], n: usize, rows: usize, x: usize, w: usize, y: usize, z: usize)
+// The unknowns after the step, at z, which stands behind all that they are made of: the unknowns at x, the slopes at j, the inverse weights at w and y.
+pub fn step(s: &mut [f64], n: usize, rows: usize, x: usize, j: usize, w: usize, y: usize, z: usize)
     requires { ⌜ (rows ≤ 800) × (n ≤ 384) ⌝ }
-    requires { ⌜ rows * n ≤ z ⌝ }
+    requires { ⌜ j + rows * n ≤ z ⌝ }
     requires { ⌜ (x + n ≤ z) × (w + n ≤ z) ⌝ }
     requires { ⌜ y + rows ≤ z ⌝ }
     requires { ⌜ z + n ≤ length (now s) ⌝ }
-    ensures { λ _. ⌜ Stepped (now (s .entry)) (now (s .exit)) n rows x w y z ⌝ }
+    ensures { λ _. ⌜ Stepped (now (s .entry)) (now (s .exit)) n rows x j w y z ⌝ }
 {
     for c in 0..n {
-        let v = stepped_at(s, n, rows, x, w, y, c);
+        let v = stepped_at(s, n, rows, x, j, w, y, c);
         s[z + c] = v;
     }
 }

@@ -35,6 +35,7 @@ use Rattle.placement.specs.Answer.{frameDoubles, framesDoubles, Worst, E
 use Rattle.rounds.specs.Places.{Arranged}
 use Rattle.rounds.specs.Rounds.{weightsIn, unknownsIn, firstIn, Ran}
 use Rattle.rounds.specs.declared.places.Places.{Places as PlacesStruct}
+use Rattle.rounds.specs.declared.rounds.RunEnd.{RunEnd as RunEndStruct}
 
 -- ---- lists written double by double
 
@@ -169,17 +170,17 @@ pub record Again (sc : Scene) (c : SceneStruct) (p : PlacesStruct) (s t : List F
   pub first : firstIn c p t ≡ unknownsIn c p s
   pub size : length t ≡ length s
 
-pub again-is : (sc : Scene) (c : SceneStruct) (p : PlacesStruct) (s t u v : List Float) (ok : Bool) → Arranged c p (length s) → Copied s t (p .x) (p .first) (c .n)
-    → Put t u (p .x) (c .n) (listOf slightTurn (c .n)) → Ran c p u v (run (rowsOf sc) (weightsIn c p u) ASSEMBLY MAX-ITER (unknownsIn c p u)) ok → Again sc c p s v ok
-again-is sc c p s t u v ok a d y r =
+pub again-is : (sc : Scene) (c : SceneStruct) (p : PlacesStruct) (s t u v : List Float) (e : RunEndStruct) → Arranged c p (length s) → Copied s t (p .x) (p .first) (c .n)
+    → Put t u (p .x) (c .n) (listOf slightTurn (c .n)) → Ran c p u v (run (rowsOf sc) (weightsIn c p u) ASSEMBLY MAX-ITER (unknownsIn c p u)) e → Again sc c p s v (e .converged)
+again-is sc c p s t u v e a d y r =
     let w : weightsIn c p u ≡ weightsIn c p s
-    = kept-part-below t u (p .x) (p .x + c .n) (p .weights) (c .n) (a .weights) (y .kept)
-    ∙ kept-part-below s t (p .first) (p .first + c .n) (p .weights) (c .n) (omega (arith, a .weights, a .x)) (d .kept) in
+    = kept-part-above t u (p .x) (p .x + c .n) (p .weights) (c .n) (omega arith) (y .kept)
+    ∙ kept-part-above s t (p .first) (p .first + c .n) (p .weights) (c .n) (omega arith) (d .kept) in
     let o : run (rowsOf sc) (weightsIn c p u) ASSEMBLY MAX-ITER (unknownsIn c p u) ≡ retryOf sc c p s = λ z. run (rowsOf sc) (w z) ASSEMBLY MAX-ITER (y .holds z) in
     record {
       told = r .told ∙ ap (λ (q : Outcome). q .converged) o;
       unknowns-are = r .unknowns ∙ ap (λ (q : Outcome). q .x) o;
-      first = r .keeps .first ∙ kept-part-above t u (p .x) (p .x + c .n) (p .first) (c .n) (a .x) (y .kept) ∙ d .copy;
+      first = r .keeps .first ∙ kept-part-below t u (p .x) (p .x + c .n) (p .first) (c .n) (a .first) (y .kept) ∙ d .copy;
       size = r .keeps .size ∙ y .kept .size ∙ d .kept .size;
     }
 
@@ -203,7 +204,7 @@ module _ (sc : Scene) (c : SceneStruct) (p : PlacesStruct) (s v : List Float) (o
       (n : Worst sc c p w z (p .first) before) where
     same-first : part z (p .first) (c .n) ≡ first .x
     same-first =
-        worst-part sc c p w z (p .first) before (p .first) (c .n) (omega (arith, f .first, f .rows, f .next)) n ∙ worst-part sc c p v w (p .x) now (p .first) (c .n) (omega (arith, f .first, f .rows, f .next)) m
+        worst-part sc c p w z (p .first) before (p .first) (c .n) (omega arith) n ∙ worst-part sc c p v w (p .x) now (p .first) (c .n) (omega arith) m
         ∙ a .first
         ∙ sym e
 
@@ -211,7 +212,7 @@ module _ (sc : Scene) (c : SceneStruct) (p : PlacesStruct) (s v : List Float) (o
     kept t g =
         better-smaller sc first (retryOf sc c p s) now before t (sym (a .told) ∙ h) (m .told ∙ ap (λ (q : List Float). maxAbs (rowsOf sc q)) (a .unknowns-are))
         (n .told
-        ∙ ap (λ (q : List Float). maxAbs (rowsOf sc q)) (worst-part sc c p v w (p .x) now (p .first) (c .n) (omega (arith, f .first, f .rows, f .next)) m ∙ a .first ∙ sym e))
+        ∙ ap (λ (q : List Float). maxAbs (rowsOf sc q)) (worst-part sc c p v w (p .x) now (p .first) (c .n) (omega arith) m ∙ a .first ∙ sym e))
         g
 
     pub retry-smaller : lt now before ≡ true → Ended c p s z (better sc first (retryOf sc c p s)) false
@@ -220,8 +221,8 @@ module _ (sc : Scene) (c : SceneStruct) (p : PlacesStruct) (s v : List Float) (o
         record {
           told = sym h ∙ a .told ∙ ap (λ (q : Outcome). q .converged) (sym b);
           unknowns =
-              worst-part sc c p w z (p .first) before (p .x) (c .n) (omega (arith, f .x, f .first, f .rows, f .next)) n
-              ∙ worst-part sc c p v w (p .x) now (p .x) (c .n) (omega (arith, f .x, f .first, f .rows, f .next)) m
+              worst-part sc c p w z (p .first) before (p .x) (c .n) (omega arith) n
+              ∙ worst-part sc c p v w (p .x) now (p .x) (c .n) (omega arith) m
               ∙ a .unknowns-are
               ∙ ap (λ (q : Outcome). q .x) (sym b);
           size = n .size ∙ m .size ∙ a .size;
@@ -248,11 +249,11 @@ pub record Begun (sc : Scene) (c : SceneStruct) (p : PlacesStruct) (drag : Optio
   pub weights-are : weightsIn c p t ≡ map inverseWeight (weights sc drag)
   pub size : length t ≡ length s
 
-pub begun-is : (sc : Scene) (c : SceneStruct) (p : PlacesStruct) (drag : Option ℕ) (s t u v : List Float) (ok : Bool) → c .n ≡ unknowns sc → Arranged c p (length s)
+pub begun-is : (sc : Scene) (c : SceneStruct) (p : PlacesStruct) (drag : Option ℕ) (s t u v : List Float) (e : RunEndStruct) → c .n ≡ unknowns sc → Arranged c p (length s)
     → Put s t (p .weights) (c .n) (map inverseWeight (weights sc drag)) → Put t u (p .x) (c .n) (listOf startAt (c .n))
-    → Ran c p u v (run (rowsOf sc) (weightsIn c p u) ASSEMBLY MAX-ITER (unknownsIn c p u)) ok → Begun sc c p drag s v ok
-begun-is sc c p drag s t u v ok k a d y r =
-    let w : weightsIn c p u ≡ map inverseWeight (weights sc drag) = kept-part-below t u (p .x) (p .x + c .n) (p .weights) (c .n) (a .weights) (y .kept) ∙ d .holds in
+    → Ran c p u v (run (rowsOf sc) (weightsIn c p u) ASSEMBLY MAX-ITER (unknownsIn c p u)) e → Begun sc c p drag s v (e .converged)
+begun-is sc c p drag s t u v e k a d y r =
+    let w : weightsIn c p u ≡ map inverseWeight (weights sc drag) = kept-part-above t u (p .x) (p .x + c .n) (p .weights) (c .n) (omega arith) (y .kept) ∙ d .holds in
     let x : unknownsIn c p u ≡ listOf startAt (unknowns sc) = y .holds ∙ ap (listOf startAt) k in
     let o : run (rowsOf sc) (weightsIn c p u) ASSEMBLY MAX-ITER (unknownsIn c p u) ≡ firstOf sc drag = λ z. run (rowsOf sc) (w z) ASSEMBLY MAX-ITER (x z) in
     record {

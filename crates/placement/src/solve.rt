@@ -91,10 +91,10 @@ fn retry(sheet: &[u8], scene: Scene, s: &mut [f64], p: Places) -> bool
     requires { ⌜ scene .n ≤ 384 ⌝ }
     ensures { λ ok. ⌜ ((first : lm.Outcome) → first .converged ≡ false → first .x ≡ rounds_spec.unknownsIn scene p (now (s .entry)) → spec.Ended scene p (now (s .entry)) (now (s .exit)) (definitions.better (sceneOf (now (sheet .entry)) scene) first (lm.run (definitions.rowsOf (sceneOf (now (sheet .entry)) scene)) (rounds_spec.weightsIn scene p (now (s .entry))) tolerances.ASSEMBLY definitions.MAX-ITER (lm.listOf definitions.slightTurn (scene .n)))) ok) ⌝ }
 {
-    copy(s, p.x, p.first, scene.n);
+    copy_back(s, p.x, p.first, scene.n);
     put_turn(s, p.x, scene.n);
     let again = run(sheet, scene, s, p);
-    if again {
+    if again.converged {
         return true;
     }
     let now = worst(sheet, scene, s, p, p.x);
@@ -102,7 +102,7 @@ fn retry(sheet: &[u8], scene: Scene, s: &mut [f64], p: Places) -> bool
     if now < before {
         return false;
     }
-    copy_back(s, p.first, p.x, scene.n);
+    copy(s, p.first, p.x, scene.n);
     false
 }
 
@@ -116,8 +116,8 @@ fn solved(sheet: &[u8], scene: Scene, s: &mut [f64], p: Places, drag: Place) -> 
     let n = scene.n;
     inverse_weights(sheet, scene, s, p.weights, drag);
     put_start(s, p.x, n);
-    let converged = run(sheet, scene, s, p);
-    if converged {
+    let first = run(sheet, scene, s, p);
+    if first.converged {
         return true;
     }
     if n == 0 {

@@ -1,30 +1,61 @@
 -- Trials, rounds and runs in memory: what each step of a loop and each early end is by the definitions, and what it leaves alone. By the laws of parts. Assumes nothing.
 use mathlib.Core.Path.{_≡_, refl, sym, ap, subst, _∙_}
 use mathlib.Core.Bool.{Bool, true, false, _&&_, _||_, cond}
-use mathlib.Core.List.{List}
+use mathlib.Core.List.{List, _++_}
 use mathlib.Core.Option.{Option, none, some}
 use Prim.Native.Nat.{ℕ, suc, _+_, _-_, _*_, _≤_, _<_}
 use native.Mathlib.Omega.{arith}
 use native.Mathlib.Numerals.{add-one}
 use borrow.Author.Tests.{eq-eqb, ne-eqb, lt-ltb, le-ltb}
 use lib.Dec.{eqb, ltb}
-use lib.ListN.{length, getD, length-take, length-drop}
-use lib.Seq.{ext-getD}
+use lib.ListN.{length, getD, take, drop, length-take, length-drop, length-append}
+use lib.Seq.{ext-getD, getD-take, take-length, length-take-le, take-append-add, take-add, drop-drop}
 use lib.Ieee.{Float, nan, binary64, lt, le, ofBits}
 use Rattle.numbers.specs.Double.{isFinite}
 use Rattle.numbers.specs.MaxAbs.{maxAbs}
 use Rattle.vectors.specs.Tol.{ASSEMBLY}
-use Rattle.least_squares.specs.Memory.{part}
+use borrow.Rule.Slice.PartMut.{putMid}
+use Rattle.least_squares.specs.Memory.{part, Kept}
 use Rattle.least_squares.specs.Lm.{State, Tried, Outcome, norm2, jacobian, normal, stiffer, softer, judged, stepped, stepWith, trial, trials, oneRound, rounds, run}
-use Rattle.least_squares.specs.LmPosts.{Copied, Matrix}
+use Rattle.least_squares.specs.LmPosts.{Matrix}
 use Rattle.scene.specs.Solve.{Scene, rowsOf, MAX-ITER}
 use Rattle.scene.specs.Scene.{RowsAt, Slopes}
+use Rattle.slopes.specs.NearSlopes.{Apart}
 use Rattle.scene.specs.declared.scene.Scene.{Scene as SceneStruct}
-use Rattle.least_squares.proofs.MemoryLaws.{part-length, part-at, part-part, kept-part-below, kept-part-above}
-use Rattle.rounds.specs.Places.{Arranged}
+use Rattle.least_squares.proofs.MemoryLaws.{part-length, part-at, part-part, kept-part-below, kept-part-above, put-tail, kept-tail, tail-part}
+use Rattle.rounds.specs.Places.{need, placesOf, Arranged}
 use Rattle.rounds.specs.Rounds.{slopesIn, matrixIn, weightsIn, unknownsIn, rowsIn, stateIn, triedIn, withinIn, Keeps, Leaves, TrialMade, TrialsMade, RoundMade, Ran}
 use Rattle.rounds.specs.declared.places.Places.{Places as PlacesStruct}
 use Rattle.rounds.specs.declared.trial.Tried.{Tried as TriedStruct}
+use Rattle.rounds.specs.declared.rounds.RunEnd.{RunEnd as RunEndStruct}
+
+-- ---- where the parts stand
+
+arranged : (c : SceneStruct) (size : ℕ) → need c ≤ size → Arranged c (placesOf c) size
+arranged c size h =
+    record {
+      first = omega arith;
+      x = refl;
+      slopes = refl;
+      matrix = refl;
+      weights = omega arith;
+      damped = refl;
+      right = omega arith;
+      rows = omega arith;
+      next = omega arith;
+      ahead = omega arith;
+      behind = omega arith;
+      poses = omega arith;
+      from-x = omega arith;
+      from-slopes = refl;
+      from-next = omega arith;
+      from-ahead = omega arith;
+      from-behind = omega arith;
+      from-poses = omega arith;
+    }
+
+pub arranged-as : (c : SceneStruct) (p : PlacesStruct) (size : ℕ) → p ≡ placesOf c → need c ≤ size → Arranged c p size
+arranged-as c p size e h = subst (λ (q : PlacesStruct). Arranged c q size) (sym e) (arranged c size h)
 
 -- ---- what is left alone
 
@@ -103,7 +134,7 @@ module _ (f : List Float → List Float) (winv : List Float) (tol : Float) where
 
 -- the trials from a state, with the slopes, the matrix and the weights that s has
 abbrev trialsFrom : Scene → SceneStruct → PlacesStruct → List Float → ℕ → State → Tried
-trialsFrom sc c p s k w = trials (rowsOf sc) (weightsIn c p s) ASSEMBLY (slopesIn c s) (matrixIn c p s) (c .rows) k w
+trialsFrom sc c p s k w = trials (rowsOf sc) (weightsIn c p s) ASSEMBLY (slopesIn c p s) (matrixIn c p s) (c .rows) k w
 
 -- i trials were made and none was better: those left come to what all come to
 pub record Trying (sc : Scene) (c : SceneStruct) (p : PlacesStruct) (s t : List Float) (cost mu stiffness : Float) (i : ℕ) : Type 0 where
@@ -115,7 +146,7 @@ trying-start sc c p s cost mu = record { leaves = leaves-refl c p s; left = refl
 
 module _ (sc : Scene) (c : SceneStruct) (p : PlacesStruct) (s t u : List Float) (cost mu d : Float) (i : ℕ) (r : TriedStruct)
     (h : i < 12) (g : Trying sc c p s t cost mu d i) (m : TrialMade sc c p t u cost d r) where
-  tried-is : triedIn c p u r ≡ trial (rowsOf sc) (weightsIn c p s) ASSEMBLY (slopesIn c s) (matrixIn c p s) (c .rows) (stateIn c p t cost d)
+  tried-is : triedIn c p u r ≡ trial (rowsOf sc) (weightsIn c p s) ASSEMBLY (slopesIn c p s) (matrixIn c p s) (c .rows) (stateIn c p t cost d)
   tried-is =
       m .tried
       ∙ (λ j. trial (rowsOf sc) (g .leaves .keeps .weights j) ASSEMBLY (g .leaves .slopes j) (g .leaves .matrix j) (c .rows) (stateIn c p t cost d))
@@ -126,14 +157,14 @@ module _ (sc : Scene) (c : SceneStruct) (p : PlacesStruct) (s t u : List Float) 
   pub trying-better : r .better ≡ true → TrialsMade sc c p s u cost mu r
   trying-better e =
       record {
-        tried = sym (one-less ∙ trials-better (rowsOf sc) (weightsIn c p s) ASSEMBLY (slopesIn c s) (matrixIn c p s) (c .rows) (12 - (i + 1)) (stateIn c p t cost d) (triedIn c p u r) tried-is e);
+        tried = sym (one-less ∙ trials-better (rowsOf sc) (weightsIn c p s) ASSEMBLY (slopesIn c p s) (matrixIn c p s) (c .rows) (12 - (i + 1)) (stateIn c p t cost d) (triedIn c p u r) tried-is e);
         leaves = leaves-trans c p s t u (g .leaves) (m .leaves);
       }
 
   -- the sum of squares is as it was
   same-cost : r .better ≡ false → r .cost ≡ cost
   same-cost e =
-      let w = trial-worse (rowsOf sc) (weightsIn c p s) ASSEMBLY (slopesIn c s) (matrixIn c p s) (c .rows) (stateIn c p t cost d) (ap (λ (v : Tried). v .better) (sym tried-is) ∙ e) in
+      let w = trial-worse (rowsOf sc) (weightsIn c p s) ASSEMBLY (slopesIn c p s) (matrixIn c p s) (c .rows) (stateIn c p t cost d) (ap (λ (v : Tried). v .better) (sym tried-is) ∙ e) in
       ap (λ (v : Tried). v .state .cost) (tried-is ∙ w)
 
   pub trying-worse : r .better ≡ false → Trying sc c p s u cost mu (r .mu) (i + 1)
@@ -142,7 +173,7 @@ module _ (sc : Scene) (c : SceneStruct) (p : PlacesStruct) (s t u : List Float) 
         leaves = leaves-trans c p s t u (g .leaves) (m .leaves);
         left =
             one-less
-            ∙ trials-worse (rowsOf sc) (weightsIn c p s) ASSEMBLY (slopesIn c s) (matrixIn c p s) (c .rows) (12 - (i + 1)) (stateIn c p t cost d) (triedIn c p u r) tried-is e
+            ∙ trials-worse (rowsOf sc) (weightsIn c p s) ASSEMBLY (slopesIn c p s) (matrixIn c p s) (c .rows) (12 - (i + 1)) (stateIn c p t cost d) (triedIn c p u r) tried-is e
             ∙ ap (λ (v : Float). trialsFrom sc c p s (12 - (i + 1)) (stateIn c p u v (r .mu))) (same-cost e);
       }
 
@@ -154,10 +185,91 @@ trying-end sc c p s t cost mu d i e g =
       tried =
           sym (
           g .left ∙ ap (λ (k : ℕ). trialsFrom sc c p s k (stateIn c p t cost d)) z
-          ∙ trials-none (rowsOf sc) (weightsIn c p s) ASSEMBLY (slopesIn c s) (matrixIn c p s) (c .rows) (stateIn c p t cost d)
+          ∙ trials-none (rowsOf sc) (weightsIn c p s) ASSEMBLY (slopesIn c p s) (matrixIn c p s) (c .rows) (stateIn c p t cost d)
           );
       leaves = g .leaves;
     }
+
+-- ---- a part that was lent from a on is back
+
+-- the scratch below a, and what the callee left of the rest below j
+taken-tail : (a : ℕ) (s q : List Float) (j : ℕ) → a ≤ length s → take j q ≡ take j (drop a s) → take (a + j) (take a s ++ q) ≡ take (a + j) s
+taken-tail a s q j h e =
+    ap (λ (w : ℕ). take (w + j) (take a s ++ q)) (sym (length-take-le a s h)) ∙ take-append-add (take a s) q j ∙ ap (λ (w : List Float). take a s ++ w) e ∙ sym (take-add a j s)
+
+slopes-tail : (sc : Scene) (a : ℕ) (s q : List Float) (j n rows x b : ℕ) → a ≤ length s → Slopes sc (drop a s) q j n rows x b → Slopes sc s (take a s ++ q) (a + j) n rows (a + x) (a + b)
+slopes-tail sc a s q j n rows x b h g =
+    let e : a + j + rows * n ≡ a + (j + rows * n) = omega arith in
+    let f : a + b - (a + j + rows * n) ≡ b - (j + rows * n) = omega arith in
+    record {
+      size = length-append (take a s) q ∙ (let e = g .size in let l = length-take-le a s h in let d = length-drop a s in omega arith);
+      holds = tail-part a s q j (rows * n) h ∙ g .holds ∙ ap (λ (w : List Float). jacobian (rowsOf sc) (take n w) rows) (drop-drop x a s);
+      below = taken-tail a s q j h (g .below);
+      between =
+          (λ i. part (take a s ++ q) (e i) (f i)) ∙ tail-part a s q (j + rows * n) (b - (j + rows * n)) h ∙ g .between ∙ ap (take (b - (j + rows * n))) (drop-drop (j + rows * n) a s)
+          ∙ sym (λ i. part s (e i) (f i));
+    }
+
+-- the slopes filled, in the whole scratch
+pub slopes-lent : (sc : Scene) (c : SceneStruct) (p : PlacesStruct) (s q : List Float) → Arranged c p (length s)
+    → Slopes sc (take (length s - p .x) (drop (p .x) s)) q (p .seen .slopes) (c .n) (c .rows) (p .seen .x) (p .seen .next)
+    → Slopes sc s (putMid (p .x) (length s - p .x) s q) (p .slopes) (c .n) (c .rows) (p .x) (p .next)
+slopes-lent sc c p s q at g =
+    let h : p .x ≤ length s = omega arith in
+    let r : Slopes sc (drop (p .x) s) q (p .seen .slopes) (c .n) (c .rows) (p .seen .x) (p .seen .next) = rw (← length-drop (p .x) s, take-length) at g in
+    rw (put-tail (p .x) s q h) (rw (at .from-slopes, at .from-x, at .from-next) at (slopes-tail sc (p .x) s q (p .seen .slopes) (c .n) (c .rows) (p .seen .x) (p .seen .next) h r))
+
+-- the matrix formed, in the whole scratch
+pub record Formed (c : SceneStruct) (p : PlacesStruct) (s t : List Float) : Type 0 where
+  pub matrix : matrixIn c p t ≡ normal (slopesIn c p s) (weightsIn c p s) (c .n) (c .rows)
+  pub kept : Kept s t (p .matrix) (p .weights)
+
+pub matrix-lent : (c : SceneStruct) (p : PlacesStruct) (s q : List Float) → Arranged c p (length s)
+    → Matrix (take (length s - p .slopes) (drop (p .slopes) s)) q (c .n) (c .rows) (c .rows * c .n) (c .rows * c .n + c .rows * c .rows)
+    → Formed c p s (putMid (p .slopes) (length s - p .slopes) s q)
+matrix-lent c p s q at g =
+    let j = p .slopes in
+    let h : j ≤ length s = omega arith in
+    let m : j + c .rows * c .n ≡ p .matrix = at .slopes in
+    let w : j + (c .rows * c .n + c .rows * c .rows) ≡ p .weights = omega (arith, at .slopes, at .matrix) in
+    let r : Matrix (drop j s) q (c .n) (c .rows) (c .rows * c .n) (c .rows * c .n + c .rows * c .rows) = rw (← length-drop j s, take-length) at g in
+    rw (put-tail j s q h)
+    (record {
+      matrix =
+          ap (λ (o : ℕ). part (take j s ++ q) o (c .rows * c .rows)) (sym m) ∙ tail-part j s q (c .rows * c .n) (c .rows * c .rows) h ∙ r .matrix
+          ∙ ap (λ (l : List Float). normal (slopesIn c p s) (take (c .n) l) (c .n) (c .rows)) (drop-drop (c .rows * c .n + c .rows * c .rows) j s ∙ ap (λ (o : ℕ). drop o s) w);
+      kept = rw (m, w) at (kept-tail j s q (c .rows * c .n) (c .rows * c .n + c .rows * c .rows) h (r .kept));
+    })
+
+-- what the filling of slopes is lent is long enough
+pub apart-lent : (c : SceneStruct) (p : PlacesStruct) (s : List Float) → Arranged c p (length s) → Apart c (p .seen) (length (take (length s - p .x) (drop (p .x) s)))
+apart-lent c p s at =
+    let e : length (take (length s - p .x) (drop (p .x) s)) ≡ length s - p .x = length-take-le (length s - p .x) (drop (p .x) s) (simp length-drop (omega arith)) in
+    record { x = omega arith; slopes = omega arith; next = omega arith; ahead = omega arith; behind = omega arith; poses = omega arith }
+
+pub matrix-room : (c : SceneStruct) (p : PlacesStruct) (s : List Float) → Arranged c p (length s)
+    → c .rows * c .n + c .rows * c .rows + c .n ≤ length (take (length s - p .slopes) (drop (p .slopes) s))
+matrix-room c p s at =
+    let e : length (take (length s - p .slopes) (drop (p .slopes) s)) ≡ length s - p .slopes = length-take-le (length s - p .slopes) (drop (p .slopes) s) (simp length-drop (omega arith)) in
+    omega arith
+
+-- ---- the slopes leave other parts alone
+
+-- a part behind the slopes and before a
+slopes-part : (sc : Scene) (s t : List Float) (j n rows x a o k : ℕ) → j + rows * n ≤ o → o + k ≤ a → Slopes sc s t j n rows x a → part t o k ≡ part s o k
+slopes-part sc s t j n rows x a o k h l g =
+    let e : j + rows * n + (o - (j + rows * n)) ≡ o = omega arith in
+    let m : o - (j + rows * n) + k ≤ a - (j + rows * n) = omega arith in
+    ap (λ (w : ℕ). part t w k) (sym e) ∙ sym (part-part t (j + rows * n) (a - (j + rows * n)) (o - (j + rows * n)) k m)
+    ∙ ap (λ (w : List Float). part w (o - (j + rows * n)) k) (g .between)
+    ∙ part-part s (j + rows * n) (a - (j + rows * n)) (o - (j + rows * n)) k m
+    ∙ ap (λ (w : ℕ). part s w k) e
+
+-- a part before the slopes
+slopes-below : (sc : Scene) (s t : List Float) (j n rows x a o k : ℕ) → o + k ≤ j → Slopes sc s t j n rows x a → part t o k ≡ part s o k
+slopes-below sc s t j n rows x a o k h g =
+    part-same s t o k (g .size)
+    (λ i l. sym (getD-take j t (o + i) nan (omega arith)) ∙ ap (λ (w : List Float). getD w (o + i) nan) (g .below) ∙ getD-take j s (o + i) nan (omega arith))
 
 -- ---- a round in memory
 
@@ -167,65 +279,51 @@ unfolding oneRound
 one-round-is f winv tol s rows n a b =
     λ j. trials f winv tol (jacobian f (s .x) (sym a j)) (normal (jacobian f (s .x) (sym a j)) winv (sym b j) (sym a j)) (sym a j) 12 s
 
--- a part behind the slopes and before a is as it was
-slopes-part : (sc : Scene) (s t : List Float) (n rows x a o k : ℕ) → rows * n ≤ o → o + k ≤ a → Slopes sc s t 0 n rows x a → part t o k ≡ part s o k
-slopes-part sc s t n rows x a o k h l g =
-    let e : 0 + rows * n + (o - rows * n) ≡ o = omega arith in
-    let m : o - rows * n + k ≤ a - (0 + rows * n) = omega arith in
-    ap (λ (w : ℕ). part t w k) (sym e) ∙ sym (part-part t (0 + rows * n) (a - (0 + rows * n)) (o - rows * n) k m)
-    ∙ ap (λ (w : List Float). part w (o - rows * n) k) (g .between)
-    ∙ part-part s (0 + rows * n) (a - (0 + rows * n)) (o - rows * n) k m
-    ∙ ap (λ (w : ℕ). part s w k) e
+module _ (sc : Scene) (c : SceneStruct) (p : PlacesStruct) (s s1 s2 t : List Float) (cost mu : Float) (r : TriedStruct) (at : Arranged c p (length s))
+    (sloped : Slopes sc s s1 (p .slopes) (c .n) (c .rows) (p .x) (p .next)) (formed : Formed c p s1 s2) (tried : TrialsMade sc c p s2 t cost mu r) where
+  -- a part before the slopes, and one behind the matrix and before the copy of the unknowns, is as it was
+  same-before : (o k : ℕ) → o + k ≤ p .slopes → part s2 o k ≡ part s o k
+  same-before o k h =
+      kept-part-below s1 s2 (p .matrix) (p .weights) o k (omega arith) (formed .kept)
+      ∙ slopes-below sc s s1 (p .slopes) (c .n) (c .rows) (p .x) (p .next) o k h sloped
 
--- the unknowns and their copy, after the copying
-pub copied-same : (s t : List Float) (a b k : ℕ) → a + k ≤ b → Copied s t a b k → part t b k ≡ part t a k
-copied-same s t a b k h g = g .copy ∙ sym (kept-part-below s t b (b + k) a k h (g .kept))
+  same-behind : (o k : ℕ) → p .weights ≤ o → o + k ≤ p .next → part s2 o k ≡ part s o k
+  same-behind o k h l =
+      kept-part-above s1 s2 (p .matrix) (p .weights) o k h (formed .kept)
+      ∙ slopes-part sc s s1 (p .slopes) (c .n) (c .rows) (p .x) (p .next) o k (omega arith) l sloped
 
-module _ (sc : Scene) (c : SceneStruct) (p : PlacesStruct) (s s1 s2 s3 t : List Float) (cost mu : Float) (r : TriedStruct) (at : Arranged c p (length s))
-    (copied : Copied s s1 (p .x) (p .next) (c .n)) (sloped : Slopes sc s1 s2 0 (c .n) (c .rows) (p .x) (p .ahead)) (made : Matrix s2 s3 (c .n) (c .rows) (p .matrix) (p .weights))
-    (tried : TrialsMade sc c p s3 t cost mu r) where
-  -- a part between the matrix and the copy of the unknowns is as it was
-  same-two : (o k : ℕ) → p .right ≤ o → o + k ≤ p .next → part s2 o k ≡ part s o k
-  same-two o k h l =
-      slopes-part sc s1 s2 (c .n) (c .rows) (p .x) (p .ahead) o k (omega arith) (omega arith) sloped
-      ∙ kept-part-below s s1 (p .next) (p .next + c .n) o k l (copied .kept)
+  same-weights : weightsIn c p s2 ≡ weightsIn c p s
+  same-weights = same-behind (p .weights) (c .n) (omega arith) (omega arith)
 
-  same-three : (o k : ℕ) → p .right ≤ o → o + k ≤ p .next → part s3 o k ≡ part s o k
-  same-three o k h l = kept-part-above s2 s3 (p .matrix) (p .matrix + c .rows * c .rows) o k (omega arith) (made .kept) ∙ same-two o k h l
-
-  same-weights : weightsIn c p s3 ≡ weightsIn c p s
-  same-weights = same-three (p .weights) (c .n) (omega arith) (omega arith)
-
-  same-state : stateIn c p s3 cost mu ≡ stateIn c p s cost mu
+  same-state : stateIn c p s2 cost mu ≡ stateIn c p s cost mu
   same-state =
       λ j. record {
-        x = same-three (p .x) (c .n) (omega arith) (omega arith) j;
-        r = same-three (p .rows) (c .rows) (omega arith) (omega arith) j;
+        x = same-before (p .x) (c .n) (omega arith) j;
+        r = same-behind (p .rows) (c .rows) (omega arith) (omega arith) j;
         cost = cost;
         mu = mu;
       }
 
-  slopes-two : slopesIn c s2 ≡ jacobian (rowsOf sc) (unknownsIn c p s) (c .rows)
-  slopes-two = sloped .holds ∙ ap (λ (w : List Float). jacobian (rowsOf sc) w (c .rows)) (kept-part-below s s1 (p .next) (p .next + c .n) (p .x) (c .n) (omega arith) (copied .kept))
+  slopes-two : slopesIn c p s2 ≡ jacobian (rowsOf sc) (unknownsIn c p s) (c .rows)
+  slopes-two = kept-part-below s1 s2 (p .matrix) (p .weights) (p .slopes) (c .rows * c .n) (omega arith) (formed .kept) ∙ sloped .holds
 
-  slopes-three : slopesIn c s3 ≡ jacobian (rowsOf sc) (unknownsIn c p s) (c .rows)
-  slopes-three = kept-part-below s2 s3 (p .matrix) (p .matrix + c .rows * c .rows) 0 (c .rows * c .n) (omega arith) (made .kept) ∙ slopes-two
-
-  matrix-three : matrixIn c p s3 ≡ normal (jacobian (rowsOf sc) (unknownsIn c p s) (c .rows)) (weightsIn c p s) (c .n) (c .rows)
-  matrix-three = made .matrix ∙ (λ j. normal (slopes-two j) (same-two (p .weights) (c .n) (omega arith) (omega arith) j) (c .n) (c .rows))
+  matrix-two : matrixIn c p s2 ≡ normal (jacobian (rowsOf sc) (unknownsIn c p s) (c .rows)) (weightsIn c p s) (c .n) (c .rows)
+  matrix-two =
+      formed .matrix
+      ∙ (λ j. normal (sloped .holds j) (slopes-part sc s s1 (p .slopes) (c .n) (c .rows) (p .x) (p .next) (p .weights) (c .n) (omega arith) (omega arith) sloped j) (c .n) (c .rows))
 
   pub round-made : RoundMade sc c p s t cost mu r
   round-made =
       record {
         tried =
             tried .tried
-            ∙ (λ j. trials (rowsOf sc) (same-weights j) ASSEMBLY (slopes-three j) (matrix-three j) (c .rows) 12 (same-state j))
+            ∙ (λ j. trials (rowsOf sc) (same-weights j) ASSEMBLY (slopes-two j) (matrix-two j) (c .rows) 12 (same-state j))
             ∙ one-round-is (rowsOf sc) (weightsIn c p s) ASSEMBLY (stateIn c p s cost mu) (c .rows) (c .n) (part-length s (p .rows) (c .rows) (omega arith)) (part-length s (p .x) (c .n) (omega arith));
         keeps =
             record {
-              size = tried .leaves .keeps .size ∙ made .kept .size ∙ sloped .size ∙ copied .kept .size;
+              size = tried .leaves .keeps .size ∙ formed .kept .size ∙ sloped .size;
               weights = tried .leaves .keeps .weights ∙ same-weights;
-              first = tried .leaves .keeps .first ∙ same-three (p .first) (c .n) (omega arith) (omega arith);
+              first = tried .leaves .keeps .first ∙ same-before (p .first) (c .n) (omega arith);
             };
       }
 
@@ -276,9 +374,13 @@ pub record Going (sc : Scene) (c : SceneStruct) (p : PlacesStruct) (s t : List F
 pub going-start : (sc : Scene) (c : SceneStruct) (p : PlacesStruct) (s : List Float) (cost mu : Float) → Going sc c p s s cost mu cost mu 0
 going-start sc c p s cost mu = record { keeps = keeps-refl c p s; left = refl }
 
+-- how a run ended, as the code tells it
+abbrev told : Bool → ℕ → RunEndStruct
+told ok k = record { converged = ok; rounds = k }
+
 ran : (c : SceneStruct) (p : PlacesStruct) (s t : List Float) (o : Outcome) (ok : Bool) (k : ℕ) → o ≡ record { x = unknownsIn c p t; converged = ok; rounds = k } → Keeps c p s t
-    → Ran c p s t o ok
-ran c p s t o ok k e h = record { told = sym (ap (λ (w : Outcome). w .converged) e); unknowns = sym (ap (λ (w : Outcome). w .x) e); keeps = h }
+    → Ran c p s t o (told ok k)
+ran c p s t o ok k e h = record { told = sym (ap (λ (w : Outcome). w .converged) e); made = sym (ap (λ (w : Outcome). w .rounds) e); unknowns = sym (ap (λ (w : Outcome). w .x) e); keeps = h }
 
 module _ (sc : Scene) (c : SceneStruct) (p : PlacesStruct) (s t u : List Float) (cost mu e d : Float) (i : ℕ) (r : TriedStruct)
     (h : i < 200) (g : Going sc c p s t cost mu e d i) (m : RoundMade sc c p t u e d r) where
@@ -291,13 +393,19 @@ module _ (sc : Scene) (c : SceneStruct) (p : PlacesStruct) (s t u : List Float) 
   round-keeps : Keeps c p s u
   round-keeps = keeps-trans c p s t u (g .keeps) (m .keeps)
 
-  pub going-in : (ok : Bool) → ok ≡ withinIn c p u → ok ≡ true → Ran c p s u (roundsFrom sc c p s MAX-ITER 0 (stateIn c p s cost mu)) true
-  going-in ok w q =
-      ran c p s u _ true (suc i) (round-less ∙ rounds-in (rowsOf sc) (weightsIn c p s) ASSEMBLY (200 - (i + 1)) i (stateIn c p t e d) (triedIn c p u r) round-is (sym w ∙ q)) round-keeps
+  -- the round just made is counted
+  counted : (ok : Bool) → _≡_ {A = Outcome} (record { x = unknownsIn c p u; converged = ok; rounds = suc i }) (record { x = unknownsIn c p u; converged = ok; rounds = i + 1 })
+  counted ok = ap (λ (k : ℕ). record { x = unknownsIn c p u; converged = ok; rounds = k }) (sym (add-one i))
 
-  pub going-stop : (ok : Bool) → ok ≡ withinIn c p u → ok ≡ false → r .better ≡ false → Ran c p s u (roundsFrom sc c p s MAX-ITER 0 (stateIn c p s cost mu)) false
+  pub going-in : (ok : Bool) → ok ≡ withinIn c p u → ok ≡ true → Ran c p s u (roundsFrom sc c p s MAX-ITER 0 (stateIn c p s cost mu)) (told true (i + 1))
+  going-in ok w q =
+      ran c p s u _ true (i + 1)
+      (round-less ∙ rounds-in (rowsOf sc) (weightsIn c p s) ASSEMBLY (200 - (i + 1)) i (stateIn c p t e d) (triedIn c p u r) round-is (sym w ∙ q) ∙ counted true) round-keeps
+
+  pub going-stop : (ok : Bool) → ok ≡ withinIn c p u → ok ≡ false → r .better ≡ false → Ran c p s u (roundsFrom sc c p s MAX-ITER 0 (stateIn c p s cost mu)) (told false (i + 1))
   going-stop ok w q b =
-      ran c p s u _ false (suc i) (round-less ∙ rounds-stop (rowsOf sc) (weightsIn c p s) ASSEMBLY (200 - (i + 1)) i (stateIn c p t e d) (triedIn c p u r) round-is (sym w ∙ q) b) round-keeps
+      ran c p s u _ false (i + 1)
+      (round-less ∙ rounds-stop (rowsOf sc) (weightsIn c p s) ASSEMBLY (200 - (i + 1)) i (stateIn c p t e d) (triedIn c p u r) round-is (sym w ∙ q) b ∙ counted false) round-keeps
 
   pub going-on : (ok : Bool) → ok ≡ withinIn c p u → ok ≡ false → r .better ≡ true → Going sc c p s u cost mu (r .cost) (r .mu) (i + 1)
   going-on ok w q b =
@@ -310,13 +418,13 @@ module _ (sc : Scene) (c : SceneStruct) (p : PlacesStruct) (s t u : List Float) 
       }
 
 pub going-end : (sc : Scene) (c : SceneStruct) (p : PlacesStruct) (s t : List Float) (cost mu e d : Float) (i : ℕ) (ok : Bool) → i ≡ 200 → Going sc c p s t cost mu e d i → ok ≡ withinIn c p t
-    → Ran c p s t (roundsFrom sc c p s MAX-ITER 0 (stateIn c p s cost mu)) ok
+    → Ran c p s t (roundsFrom sc c p s MAX-ITER 0 (stateIn c p s cost mu)) (told ok 200)
 going-end sc c p s t cost mu e d i ok h g w =
     let z : 200 - i ≡ 0 = omega arith in
     let a =
     g .left ∙ ap (λ (k : ℕ). roundsFrom sc c p s k i (stateIn c p t e d)) z
     ∙ rounds-none (rowsOf sc) (weightsIn c p s) ASSEMBLY i (stateIn c p t e d) in
-    record { told = w ∙ sym (ap (λ (o : Outcome). o .converged) a); unknowns = sym (ap (λ (o : Outcome). o .x) a); keeps = g .keeps }
+    record { told = w ∙ sym (ap (λ (o : Outcome). o .converged) a); made = sym h ∙ sym (ap (λ (o : Outcome). o .rounds) a); unknowns = sym (ap (λ (o : Outcome). o .x) a); keeps = g .keeps }
 
 -- ---- a run, by the definitions
 
@@ -370,27 +478,27 @@ module _ (sc : Scene) (c : SceneStruct) (p : PlacesStruct) (s u : List Float) (a
   abbrev whole : Outcome
   whole = run (rowsOf sc) (weightsIn c p s) ASSEMBLY MAX-ITER (unknownsIn c p s)
 
-  ends : (ok : Bool) → whole ≡ record { x = unknownsIn c p s; converged = ok; rounds = 0 } → Ran c p s u whole ok
+  ends : (ok : Bool) → whole ≡ record { x = unknownsIn c p s; converged = ok; rounds = 0 } → Ran c p s u whole (told ok 0)
   ends ok e = ran c p s u whole ok 0 (e ∙ ap (λ (w : List Float). record { x = w; converged = ok; rounds = 0 }) (sym run-unknowns)) run-keeps
 
-  pub ran-empty : c .rows ≡ 0 → Ran c p s u whole true
+  pub ran-empty : c .rows ≡ 0 → Ran c p s u whole (told true 0)
   ran-empty h = ends true (run-done (rowsOf sc) (weightsIn c p s) ASSEMBLY MAX-ITER (unknownsIn c p s) (rowsIn c p u) (rows .holds) (rw (eq-eqb (length (rowsIn c p u)) 0 (row-count ∙ h))))
 
   -- the rows are some
   some-rows : (ok : Bool) → ok ≡ withinIn c p u → (c .rows ≡ 0 → ⊥) → (eqb (length (rowsIn c p u)) 0 || withinIn c p u) ≡ ok
   some-rows ok w h = or-false (eqb (length (rowsIn c p u)) 0) (withinIn c p u) (ne-eqb (length (rowsIn c p u)) 0 (λ z. h (sym row-count ∙ z))) ∙ sym w
 
-  pub ran-within : (ok : Bool) → ok ≡ withinIn c p u → (c .rows ≡ 0 → ⊥) → ok ≡ true → Ran c p s u whole true
+  pub ran-within : (ok : Bool) → ok ≡ withinIn c p u → (c .rows ≡ 0 → ⊥) → ok ≡ true → Ran c p s u whole (told true 0)
   ran-within ok w h q = ends true (run-done (rowsOf sc) (weightsIn c p s) ASSEMBLY MAX-ITER (unknownsIn c p s) (rowsIn c p u) (rows .holds) (some-rows ok w h ∙ q))
 
   module _ (ok : Bool) (w : ok ≡ withinIn c p u) (h : c .rows ≡ 0 → ⊥) (q : ok ≡ false) where
-    pub ran-fixed : c .n ≡ 0 → Ran c p s u whole false
+    pub ran-fixed : c .n ≡ 0 → Ran c p s u whole (told false 0)
     ran-fixed l =
         ends false
         (run-none (rowsOf sc) (weightsIn c p s) ASSEMBLY MAX-ITER (unknownsIn c p s) (rowsIn c p u) (rows .holds) (some-rows ok w h ∙ q)
         (rw (eq-eqb (length (unknownsIn c p s)) 0 (unknown-count ∙ l))))
 
-    pub ran-large : (c .n ≡ 0 → ⊥) → 800 < c .rows → Ran c p s u whole false
+    pub ran-large : (c .n ≡ 0 → ⊥) → 800 < c .rows → Ran c p s u whole (told false 0)
     ran-large l m =
         let e = row-count in
         ends false
@@ -409,13 +517,14 @@ module _ (sc : Scene) (c : SceneStruct) (p : PlacesStruct) (s u : List Float) (a
         ∙ (λ j. rounds (rowsOf sc) (sym (run-keeps .weights) j) ASSEMBLY MAX-ITER 0
         (record { x = sym run-unknowns j; r = rowsIn c p u; cost = sym v j; mu = ofBits binary64 0x3DDB_7CDF_D9D7_BDBB }))
 
-    pub ran-rounds : (t : List Float) (cost : Float) (done : Bool) → cost ≡ norm2 (rowsIn c p u) → (c .n ≡ 0 → ⊥) → c .rows ≤ 800
+    pub ran-rounds : (t : List Float) (cost : Float) (done : RunEndStruct) → cost ≡ norm2 (rowsIn c p u) → (c .n ≡ 0 → ⊥) → c .rows ≤ 800
         → Ran c p u t (rounds (rowsOf sc) (weightsIn c p u) ASSEMBLY MAX-ITER 0 (stateIn c p u cost (ofBits binary64 0x3DDB_7CDF_D9D7_BDBB))) done
         → Ran c p s t whole done
     ran-rounds t cost done v l m g =
         let e = from-here cost v l m in
         record {
           told = g .told ∙ sym (ap (λ (o : Outcome). o .converged) e);
+          made = g .made ∙ sym (ap (λ (o : Outcome). o .rounds) e);
           unknowns = g .unknowns ∙ sym (ap (λ (o : Outcome). o .x) e);
           keeps = keeps-trans c p s u t run-keeps (g .keeps);
         }

@@ -47,23 +47,23 @@ step-taken c p s u t size h a b =
       leaves = record {
         keeps = record {
           size = b .kept .size ∙ a .kept .size;
-          weights = before (p .weights) (c .n) (omega arith);
-          first = below (p .first) (c .n) (omega arith) ∙ above (p .first) (c .n) (omega arith);
+          weights = between (p .weights) (c .n) (omega arith) (omega arith);
+          first = below (p .first) (c .n) (omega arith) ∙ kept-part-below s u (p .x) (p .x + c .n) (p .first) (c .n) (omega arith) (a .kept);
         };
-        slopes = before 0 (c .rows * c .n) (omega arith);
-        matrix = before (p .matrix) (c .rows * c .rows) (omega arith);
+        slopes = between (p .slopes) (c .rows * c .n) (omega arith) (omega arith);
+        matrix = between (p .matrix) (c .rows * c .rows) (omega arith) (omega arith);
       };
     }
   where
-    -- before the rows, behind the unknowns, before both
+    -- before the rows, behind the unknowns, between both
     below : (o k : ℕ) → o + k ≤ p .rows → part t o k ≡ part u o k
     below o k l = kept-part-below u t (p .rows) (p .rows + c .rows) o k l (b .kept)
 
     above : (o k : ℕ) → p .x + c .n ≤ o → part u o k ≡ part s o k
     above o k l = kept-part-above s u (p .x) (p .x + c .n) o k l (a .kept)
 
-    before : (o k : ℕ) → o + k ≤ p .x → part t o k ≡ part s o k
-    before o k l = below o k (omega arith) ∙ kept-part-below s u (p .x) (p .x + c .n) o k l (a .kept)
+    between : (o k : ℕ) → p .x + c .n ≤ o → o + k ≤ p .rows → part t o k ≡ part s o k
+    between o k l m = below o k m ∙ above o k l
 
 -- ---- the equations
 
@@ -127,7 +127,7 @@ take-same s t k e h = ext-getD nan (take k t) (take k s) (simp length-take (omeg
         getD-take k t i nan m ∙ h i m ∙ sym (getD-take k s i nan m)
 
 pub advanced : (sc : Scene) (c : SceneStruct) (p : PlacesStruct) (s u t : List Float) (cost : Float) (size : ℕ) → Arranged c p size
-    → Stepped s u (c .n) (c .rows) (p .x) (p .weights) (p .right) (p .next)
+    → Stepped s u (c .n) (c .rows) (p .x) (p .slopes) (p .weights) (p .right) (p .next)
     → RowsAt sc u t (p .next) (c .n) (p .ahead) (c .rows) (p .poses)
     → cost ≡ norm2 (part t (p .ahead) (c .rows))
     → Advanced sc c p s t cost
@@ -170,15 +170,15 @@ stands-trans c p s t u a b =
 answered-stands : (c : SceneStruct) (p : PlacesStruct) (s t : List Float) (mu : Float) (ok : Bool) (size : ℕ) → Arranged c p size → Answered c p s t mu ok → Stands c p s t
 answered-stands c p s t mu ok size h a =
     record {
-      unknowns = above (p .x) (c .n) (omega arith);
+      unknowns = below (p .x) (c .n) (omega arith);
       rows = above (p .rows) (c .rows) (omega arith);
       leaves = record {
         keeps = record {
           size = a .kept .size;
-          weights = above (p .weights) (c .n) (omega arith);
-          first = above (p .first) (c .n) (omega arith);
+          weights = below (p .weights) (c .n) (omega arith);
+          first = below (p .first) (c .n) (omega arith);
         };
-        slopes = below 0 (c .rows * c .n) (omega arith);
+        slopes = below (p .slopes) (c .rows * c .n) (omega arith);
         matrix = below (p .matrix) (c .rows * c .rows) (omega arith);
       };
     }
@@ -200,7 +200,7 @@ advanced-stands sc c p s t cost size h a =
           weights = below (p .weights) (c .n) (omega arith);
           first = below (p .first) (c .n) (omega arith);
         };
-        slopes = below 0 (c .rows * c .n) (omega arith);
+        slopes = below (p .slopes) (c .rows * c .n) (omega arith);
         matrix = below (p .matrix) (c .rows * c .rows) (omega arith);
       };
     }
@@ -246,7 +246,7 @@ no-answer sc c p s t cost mu ok size h a e =
     record {
       tried =
           stiffened c p s t cost mu st
-          ∙ sym (ap (stepWith (rowsOf sc) (weightsIn c p s) ASSEMBLY (slopesIn c s) (c .rows) (stateIn c p s cost mu)) (not-given (answerIn c p s mu) (sym e ∙ a .told)));
+          ∙ sym (ap (stepWith (rowsOf sc) (weightsIn c p s) ASSEMBLY (slopesIn c p s) (c .rows) (stateIn c p s cost mu)) (not-given (answerIn c p s mu) (sym e ∙ a .told)));
       leaves = st .leaves;
     }
 
@@ -257,16 +257,16 @@ module _ (sc : Scene) (c : SceneStruct) (p : PlacesStruct) (s u t : List Float) 
 
   -- a trial judges the unknowns and the rows of the step
   judges :
-      trial (rowsOf sc) (weightsIn c p s) ASSEMBLY (slopesIn c s) (matrixIn c p s) (c .rows) (stateIn c p s cost mu)
+      trial (rowsOf sc) (weightsIn c p s) ASSEMBLY (slopesIn c p s) (matrixIn c p s) (c .rows) (stateIn c p s cost mu)
       ≡ judged (stateIn c p s cost mu) (part t (p .next) (c .n)) (part t (p .ahead) (c .rows))
   unfolding trial stepWith
   judges =
       let g = answered-stands c p s u mu ok size fits answer in
       let y = part u (p .right) (c .rows) in
       let q : answerIn c p s mu ≡ some y = given-as (answerIn c p s mu) y (sym good ∙ answer .told) (answer .answer) in
-      let x : part t (p .next) (c .n) ≡ stepped (unknownsIn c p s) (slopesIn c s) (weightsIn c p s) y (c .rows) =
+      let x : part t (p .next) (c .n) ≡ stepped (unknownsIn c p s) (slopesIn c p s) (weightsIn c p s) y (c .rows) =
       far .unknowns ∙ (λ j. stepped (g .unknowns j) (g .leaves .slopes j) (g .leaves .keeps .weights j) y (c .rows)) in
-      ap (stepWith (rowsOf sc) (weightsIn c p s) ASSEMBLY (slopesIn c s) (c .rows) (stateIn c p s cost mu)) q
+      ap (stepWith (rowsOf sc) (weightsIn c p s) ASSEMBLY (slopesIn c p s) (c .rows) (stateIn c p s cost mu)) q
       ∙ ap (λ (l : List Float). judged (stateIn c p s cost mu) l (rowsOf sc l)) (sym x)
       ∙ ap (judged (stateIn c p s cost mu) (part t (p .next) (c .n))) (sym (far .rows))
 

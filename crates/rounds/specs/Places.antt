@@ -1,8 +1,8 @@
--- Where the parts of the lent scratch stand while a run goes on, and what the calls on them promise. Document 01, "The sheet" (how much scratch is lent) and "Recut for
--- Rattle". s is the scratch at entry and t at exit. Definitions only.
-use Prim.Native.Nat.{ℕ, _+_, _*_, _≤_}
+-- Where the parts of the lent scratch stand while a run goes on, so that what each stage touches is what is left of the scratch from some place on: the filling of slopes
+-- from `x` on, the forming of the matrix from `slopes` on, the elimination from `damped` on. Document 01, "The sheet" (how much scratch is lent), "Recut for Rattle" and
+-- "Language forms". Definitions only.
+use Prim.Native.Nat.{ℕ, _+_, _-_, _*_, _≤_}
 use mathlib.Core.Path.{_≡_}
-use lib.ListN.{length}
 use Rattle.scene.specs.declared.scene.Scene.{Scene as SceneStruct}
 use Rattle.rounds.specs.declared.places.Places.{Places as PlacesStruct}
 
@@ -10,19 +10,47 @@ use Rattle.rounds.specs.declared.places.Places.{Places as PlacesStruct}
 abbrev pub need : SceneStruct → ℕ
 need c = c .rows * c .n + 2 * (c .rows * c .rows) + 8 * c .rows + 8 * c .n + 32 * c .m
 
--- each part stands from where the last ended; `right`, the right side of the equations, directly behind the damped matrix
+-- each part from where the last ended
+abbrev pub placesOf : SceneStruct → PlacesStruct
+placesOf c =
+    let slopes = c .n + c .n in
+    let matrix = slopes + c .rows * c .n in
+    let weights = matrix + c .rows * c .rows in
+    let damped = weights + c .n in
+    let right = damped + c .rows * c .rows in
+    let rows = right + c .rows in
+    let next = rows + c .rows in
+    let ahead = next + c .n in
+    let behind = ahead + c .rows in
+    let poses = behind + c .rows in
+    record {
+      first = 0;
+      x = c .n;
+      slopes = slopes;
+      matrix = matrix;
+      weights = weights;
+      damped = damped;
+      right = right;
+      rows = rows;
+      next = next;
+      ahead = ahead;
+      behind = behind;
+      poses = poses;
+      seen = record { x = 0; slopes = c .n; next = next - c .n; ahead = ahead - c .n; behind = behind - c .n; poses = poses - c .n };
+    }
+
+-- what each part is for, and that it stands behind the last; within so many doubles
 pub record Arranged (c : SceneStruct) (p : PlacesStruct) (size : ℕ) : Type 0 where
-  -- the slopes, from 0 on
-  pub slopes : c .rows * c .n ≤ p .matrix
-  -- J W⁻¹ Jᵀ, and a copy of it that is damped and eliminated
-  pub matrix : p .matrix + c .rows * c .rows ≤ p .damped
+  -- the unknowns that the first run ended with, and the unknowns
+  pub first : p .first + c .n ≤ p .x
+  pub x : p .x + c .n ≡ p .slopes
+  -- the slopes, directly behind them J W⁻¹ Jᵀ, directly behind it 1 over each weight
+  pub slopes : p .slopes + c .rows * c .n ≡ p .matrix
+  pub matrix : p .matrix + c .rows * c .rows ≡ p .weights
+  pub weights : p .weights + c .n ≤ p .damped
+  -- a copy of the matrix that is damped and eliminated, directly behind it the right side of the equations
   pub damped : p .damped + c .rows * c .rows ≡ p .right
-  pub right : p .right + c .rows ≤ p .weights
-  -- 1 over each weight
-  pub weights : p .weights + c .n ≤ p .x
-  -- the unknowns, and those that the first run ended with
-  pub x : p .x + c .n ≤ p .first
-  pub first : p .first + c .n ≤ p .rows
+  pub right : p .right + c .rows ≤ p .rows
   -- the rows at the unknowns
   pub rows : p .rows + c .rows ≤ p .next
   -- the unknowns after a step, or with one of them a step ahead or behind; the rows there
@@ -30,3 +58,10 @@ pub record Arranged (c : SceneStruct) (p : PlacesStruct) (size : ℕ) : Type 0 w
   pub ahead : p .ahead + c .rows ≤ p .behind
   pub behind : p .behind + c .rows ≤ p .poses
   pub poses : p .poses + 12 * c .m ≤ size
+  -- the same places, counted from `x` on
+  pub from-x : p .x + p .seen .x ≡ p .x
+  pub from-slopes : p .x + p .seen .slopes ≡ p .slopes
+  pub from-next : p .x + p .seen .next ≡ p .next
+  pub from-ahead : p .x + p .seen .ahead ≡ p .ahead
+  pub from-behind : p .x + p .seen .behind ≡ p .behind
+  pub from-poses : p .x + p .seen .poses ≡ p .poses

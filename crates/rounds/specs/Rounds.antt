@@ -16,11 +16,12 @@ use Rattle.scene.specs.Solve.{Scene, rowsOf}
 use Rattle.scene.specs.declared.scene.Scene.{Scene as SceneStruct}
 use Rattle.rounds.specs.declared.places.Places.{Places as PlacesStruct}
 use Rattle.rounds.specs.declared.trial.Tried.{Tried as TriedStruct}
+use Rattle.rounds.specs.declared.rounds.RunEnd.{RunEnd as RunEndStruct}
 
 -- ---- what stands where
 
-abbrev pub slopesIn : SceneStruct → List Float → List Float
-slopesIn c s = part s 0 (c .rows * c .n)
+abbrev pub slopesIn : SceneStruct → PlacesStruct → List Float → List Float
+slopesIn c p s = part s (p .slopes) (c .rows * c .n)
 
 abbrev pub matrixIn : SceneStruct → PlacesStruct → List Float → List Float
 matrixIn c p s = part s (p .matrix) (c .rows * c .rows)
@@ -54,7 +55,7 @@ pub record Keeps (c : SceneStruct) (p : PlacesStruct) (s t : List Float) : Type 
 -- these, the slopes and the matrix
 pub record Leaves (c : SceneStruct) (p : PlacesStruct) (s t : List Float) : Type 0 where
   pub keeps : Keeps c p s t
-  pub slopes : slopesIn c t ≡ slopesIn c s
+  pub slopes : slopesIn c p t ≡ slopesIn c p s
   pub matrix : matrixIn c p t ≡ matrixIn c p s
 
 -- ---- one trial
@@ -65,7 +66,7 @@ answerIn c p s mu =
     let a = matrixIn c p s in
     solveDense (dampTo a (c .rows) (mul binary64 mu (diagMax a (c .rows))) (c .rows)) (rowsIn c p s) (c .rows)
 
--- the equations solved: ok says whether there is an answer, and then it stands at `right`
+-- the equations solved: ok says whether there is an answer, and then it stands at `right`; what else is left at `damped` and `right` is open, it is scratch
 pub record Answered (c : SceneStruct) (p : PlacesStruct) (s t : List Float) (mu : Float) (ok : Bool) : Type 0 where
   pub told : ok ≡ given (answerIn c p s mu)
   pub answer : (y : List Float) → answerIn c p s mu ≡ some y → part t (p .right) (c .rows) ≡ y
@@ -74,7 +75,7 @@ pub record Answered (c : SceneStruct) (p : PlacesStruct) (s t : List Float) (mu 
 -- the unknowns after the step at `next`, their rows at `ahead`, and the sum of these rows' squares
 pub record Advanced (sc : Scene) (c : SceneStruct) (p : PlacesStruct) (s t : List Float) (cost : Float) : Type 0 where
   pub size : length t ≡ length s
-  pub unknowns : part t (p .next) (c .n) ≡ stepped (unknownsIn c p s) (slopesIn c s) (weightsIn c p s) (part s (p .right) (c .rows)) (c .rows)
+  pub unknowns : part t (p .next) (c .n) ≡ stepped (unknownsIn c p s) (slopesIn c p s) (weightsIn c p s) (part s (p .right) (c .rows)) (c .rows)
   pub rows : part t (p .ahead) (c .rows) ≡ rowsOf sc (part t (p .next) (c .n))
   pub cost-is : cost ≡ norm2 (part t (p .ahead) (c .rows))
   pub below : take (p .next) t ≡ take (p .next) s
@@ -86,12 +87,12 @@ pub record Taken (c : SceneStruct) (p : PlacesStruct) (s t : List Float) : Type 
   pub leaves : Leaves c p s t
 
 pub record TrialMade (sc : Scene) (c : SceneStruct) (p : PlacesStruct) (s t : List Float) (cost mu : Float) (r : TriedStruct) : Type 0 where
-  pub tried : triedIn c p t r ≡ trial (rowsOf sc) (weightsIn c p s) ASSEMBLY (slopesIn c s) (matrixIn c p s) (c .rows) (stateIn c p s cost mu)
+  pub tried : triedIn c p t r ≡ trial (rowsOf sc) (weightsIn c p s) ASSEMBLY (slopesIn c p s) (matrixIn c p s) (c .rows) (stateIn c p s cost mu)
   pub leaves : Leaves c p s t
 
 -- at most 12 trials
 pub record TrialsMade (sc : Scene) (c : SceneStruct) (p : PlacesStruct) (s t : List Float) (cost mu : Float) (r : TriedStruct) : Type 0 where
-  pub tried : triedIn c p t r ≡ trials (rowsOf sc) (weightsIn c p s) ASSEMBLY (slopesIn c s) (matrixIn c p s) (c .rows) 12 (stateIn c p s cost mu)
+  pub tried : triedIn c p t r ≡ trials (rowsOf sc) (weightsIn c p s) ASSEMBLY (slopesIn c p s) (matrixIn c p s) (c .rows) 12 (stateIn c p s cost mu)
   pub leaves : Leaves c p s t
 
 -- ---- rounds and runs
@@ -104,8 +105,10 @@ pub record RoundMade (sc : Scene) (c : SceneStruct) (p : PlacesStruct) (s t : Li
   pub tried : triedIn c p t r ≡ oneRound (rowsOf sc) (weightsIn c p s) ASSEMBLY (stateIn c p s cost mu)
   pub keeps : Keeps c p s t
 
--- a run has ended as o says: its unknowns stand at `x`, and ok says whether it converged
-pub record Ran (c : SceneStruct) (p : PlacesStruct) (s t : List Float) (o : Outcome) (ok : Bool) : Type 0 where
-  pub told : ok ≡ o .converged
+-- A run has ended as o says: its unknowns stand at `x`, and e says whether it converged and how many rounds were made. What is left in the other parts, but for those kept, is
+-- open: it is scratch.
+pub record Ran (c : SceneStruct) (p : PlacesStruct) (s t : List Float) (o : Outcome) (e : RunEndStruct) : Type 0 where
+  pub told : e .converged ≡ o .converged
+  pub made : e .rounds ≡ o .rounds
   pub unknowns : unknownsIn c p t ≡ o .x
   pub keeps : Keeps c p s t

@@ -1,53 +1,65 @@
 // Where the parts of the lent scratch stand, each from where the last ended. `specs/Places.antt` says what each is for.
 
 ghost use mathlib.Core.Path.{_≡_};
-ghost use Prim.Native.Nat.{ℕ, _+_, _*_, _≤_};
-ghost use Rattle.rounds.specs.Places.{Arranged, need};
+ghost use Prim.Native.Nat.{_≤_};
+ghost use Rattle.rounds.specs.Places.{placesOf};
 use scene::scene::Scene;
+use slopes::near_slopes::SlopeParts;
 
-// Places of parts; the slopes stand at 0.
+// Places of parts. `seen` has those that the filling of slopes is lent, as it finds them: from the unknowns at `x` on.
 pub struct Places {
+    pub first: usize,
+    pub x: usize,
+    pub slopes: usize,
     pub matrix: usize,
+    pub weights: usize,
     pub damped: usize,
     pub right: usize,
-    pub weights: usize,
-    pub x: usize,
-    pub first: usize,
     pub rows: usize,
     pub next: usize,
     pub ahead: usize,
     pub behind: usize,
     pub poses: usize,
+    pub seen: SlopeParts,
 }
 
 pub fn arrange(scene: Scene) -> Places
-    requires { ⌜ (scene .rows ≤ 896) × (scene .n ≤ 384) × (scene .m ≤ 64) ⌝ }
-    ensures { λ p. ⌜ ((size : ℕ) → need scene ≤ size → Arranged scene p size) ⌝ }
+    requires { ⌜ (scene .rows ≤ 896) × (scene .n ≤ 384) ⌝ }
+    ensures { λ p. ⌜ p ≡ placesOf scene ⌝ }
 {
     let rows = scene.rows;
     let n = scene.n;
-    let matrix = rows * n;
-    let damped = matrix + rows * rows;
+    let slopes = n + n;
+    let matrix = slopes + rows * n;
+    let weights = matrix + rows * rows;
+    let damped = weights + n;
     let right = damped + rows * rows;
-    let weights = right + rows;
-    let x = weights + n;
-    let first = x + n;
-    let at = first + n;
+    let at = right + rows;
     let next = at + rows;
     let ahead = next + n;
     let behind = ahead + rows;
     let poses = behind + rows;
+    let seen = SlopeParts {
+        x: 0,
+        slopes: n,
+        next: next - n,
+        ahead: ahead - n,
+        behind: behind - n,
+        poses: poses - n,
+    };
     Places {
+        first: 0,
+        x: n,
+        slopes,
         matrix,
+        weights,
         damped,
         right,
-        weights,
-        x,
-        first,
         rows: at,
         next,
         ahead,
         behind,
         poses,
+        seen,
     }
 }

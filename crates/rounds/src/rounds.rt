@@ -14,12 +14,17 @@ use crate::trial::Tried;
 use crate::trial::largest;
 use crate::trial::squares;
 use crate::trial::trial;
-use least_squares::lm::copy;
 use least_squares::lm::matrix;
 use scene::scene::Scene;
 use scene::scene::rows_at;
 use slopes::near_slopes::slopes;
 use vectors::tol;
+
+// How a run ended: whether it converged, and how many rounds were made.
+pub struct RunEnd {
+    pub converged: bool,
+    pub rounds: usize,
+}
 
 // At most 12 trials, up to the first that is better.
 fn trials(sheet: &[u8], scene: Scene, s: &mut [f64], p: Places, cost: f64, mu: f64) -> Tried
@@ -43,16 +48,17 @@ fn trials(sheet: &[u8], scene: Scene, s: &mut [f64], p: Places, cost: f64, mu: f
     }
 }
 
-// The slopes, the matrix, and at most 12 trials.
+// The slopes, the matrix, and at most 12 trials. The filling of slopes is lent the scratch from the unknowns on, the forming of the matrix from the slopes on.
 fn one_round(sheet: &[u8], scene: Scene, s: &mut [f64], p: Places, cost: f64, mu: f64) -> Tried
     requires { ⌜ Laid (now sheet) scene ⌝ }
     requires { ⌜ Arranged scene p (length (now s)) ⌝ }
     requires { ⌜ (scene .rows ≤ 800) × (scene .n ≤ 384) ⌝ }
     ensures { λ r. ⌜ spec.RoundMade (sceneOf (now (sheet .entry)) scene) scene p (now (s .entry)) (now (s .exit)) cost mu r ⌝ }
 {
-    copy(s, p.x, p.next, scene.n);
-    slopes(sheet, scene, s, 0, p.x, p.next, p.ahead, p.behind, p.poses);
-    matrix(s, scene.n, scene.rows, p.matrix, p.weights);
+    let x = p.x;
+    let j = p.slopes;
+    slopes(sheet, scene, &mut s[x..], p.seen);
+    matrix(&mut s[j..], scene.n, scene.rows);
     trials(sheet, scene, s, p, cost, mu)
 }
 
@@ -64,50 +70,71 @@ fn within(s: &[f64], scene: Scene, p: Places) -> bool
     largest(s, p.rows, scene.rows) <= tol::ASSEMBLY
 }
 
-// At most 200 rounds. A run ends where its rows are within the tolerance, or a round brings nothing better. Whether it converged.
-fn rounds(sheet: &[u8], scene: Scene, s: &mut [f64], p: Places, cost: f64, mu: f64) -> bool
+// At most 200 rounds. A run ends where its rows are within the tolerance, or a round brings nothing better.
+fn rounds(sheet: &[u8], scene: Scene, s: &mut [f64], p: Places, cost: f64, mu: f64) -> RunEnd
     requires { ⌜ Laid (now sheet) scene ⌝ }
     requires { ⌜ Arranged scene p (length (now s)) ⌝ }
     requires { ⌜ (scene .rows ≤ 800) × (scene .n ≤ 384) ⌝ }
-    ensures { λ ok. ⌜ spec.Ran scene p (now (s .entry)) (now (s .exit)) (lm.rounds (definitions.rowsOf (sceneOf (now (sheet .entry)) scene)) (spec.weightsIn scene p (now (s .entry))) tolerances.ASSEMBLY definitions.MAX-ITER 0 (spec.stateIn scene p (now (s .entry)) cost mu)) ok ⌝ }
+    ensures { λ e. ⌜ spec.Ran scene p (now (s .entry)) (now (s .exit)) (lm.rounds (definitions.rowsOf (sceneOf (now (sheet .entry)) scene)) (spec.weightsIn scene p (now (s .entry))) tolerances.ASSEMBLY definitions.MAX-ITER 0 (spec.stateIn scene p (now (s .entry)) cost mu)) e ⌝ }
 {
     let mut c = cost;
     let mut d = mu;
     for i in 0usize..200 {
         let t = one_round(sheet, scene, s, p, c, d);
         if within(s, scene, p) {
-            return true;
+            return RunEnd {
+                converged: true,
+                rounds: i + 1,
+            };
         }
         if t.better {
             c = t.cost;
             d = t.mu;
         } else {
-            return false;
+            return RunEnd {
+                converged: false,
+                rounds: i + 1,
+            };
         }
     }
-    within(s, scene, p)
+    RunEnd {
+        converged: within(s, scene, p),
+        rounds: 200,
+    }
 }
 
-// A run from the unknowns at `x`, with the damping 1e-10 at first; over 800 rows there are no rounds. Whether it converged.
-pub fn run(sheet: &[u8], scene: Scene, s: &mut [f64], p: Places) -> bool
+// A run from the unknowns at `x`, with the damping 1e-10 at first; over 800 rows there are no rounds.
+pub fn run(sheet: &[u8], scene: Scene, s: &mut [f64], p: Places) -> RunEnd
     requires { ⌜ Laid (now sheet) scene ⌝ }
     requires { ⌜ Arranged scene p (length (now s)) ⌝ }
     requires { ⌜ scene .n ≤ 384 ⌝ }
-    ensures { λ ok. ⌜ spec.Ran scene p (now (s .entry)) (now (s .exit)) (lm.run (definitions.rowsOf (sceneOf (now (sheet .entry)) scene)) (spec.weightsIn scene p (now (s .entry))) tolerances.ASSEMBLY definitions.MAX-ITER (spec.unknownsIn scene p (now (s .entry)))) ok ⌝ }
+    ensures { λ e. ⌜ spec.Ran scene p (now (s .entry)) (now (s .exit)) (lm.run (definitions.rowsOf (sceneOf (now (sheet .entry)) scene)) (spec.weightsIn scene p (now (s .entry))) tolerances.ASSEMBLY definitions.MAX-ITER (spec.unknownsIn scene p (now (s .entry)))) e ⌝ }
 {
     rows_at(sheet, scene, s, p.x, p.rows, p.poses);
     let rows = scene.rows;
     if rows == 0 {
-        return true;
+        return RunEnd {
+            converged: true,
+            rounds: 0,
+        };
     }
     if within(s, scene, p) {
-        return true;
+        return RunEnd {
+            converged: true,
+            rounds: 0,
+        };
     }
     if scene.n == 0 {
-        return false;
+        return RunEnd {
+            converged: false,
+            rounds: 0,
+        };
     }
     if rows > 800 {
-        return false;
+        return RunEnd {
+            converged: false,
+            rounds: 0,
+        };
     }
     let cost = squares(s, p.rows, rows);
     rounds(sheet, scene, s, p, cost, 1e-10)

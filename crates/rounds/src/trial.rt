@@ -85,7 +85,7 @@ fn advance(sheet: &[u8], scene: Scene, s: &mut [f64], p: Places) -> f64
     ensures { λ cost. ⌜ spec.Advanced (sceneOf (now (sheet .entry)) scene) scene p (now (s .entry)) (now (s .exit)) cost ⌝ }
 {
     let rows = scene.rows;
-    step(s, scene.n, rows, p.x, p.weights, p.right, p.next);
+    step(s, scene.n, rows, p.x, p.slopes, p.weights, p.right, p.next);
     rows_at(sheet, scene, s, p.next, p.ahead, p.poses);
     squares(s, p.ahead, rows)
 }

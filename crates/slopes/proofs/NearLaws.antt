@@ -28,7 +28,8 @@ use Rattle.least_squares.proofs.MemoryLaws.{part-at, part-set, part-set-below, 
 use Rattle.least_squares.proofs.TableLaws.{length-listOf, in-rows}
 use Rattle.scene.proofs.SceneLaws.{Growing, growing-room, restRows, rows-next, next-layout, length-layout, length-poses, length-bodies, laid-length, bodies-next, layout-next, poses-kept, poses-there, pose-of}
 use Rattle.slopes.proofs.SlopeLaws.{Columns, columns-start, columns-part, slope-column-is}
-use Rattle.slopes.specs.NearSlopes.{RowsBut, Near, NearRows, Among, NearColumn, ColumnsFrom, SixColumns, Standing, Started, BodyColumns, given}
+use Rattle.slopes.specs.NearSlopes.{Apart, unknownsAt, RowsBut, Near, NearRows, Among, Standing, StandingBut, NearColumn, ColumnsFrom, SixColumns, BodyColumns, Started, given}
+use Rattle.slopes.specs.declared.near_slopes.SlopeParts.{SlopeParts as PartsStruct}
 
 -- a part whose doubles are all as they were
 part-same : (s t : List Float) (o k : ℕ) → length t ≡ length s → ((i : ℕ) → i < k → getD t (o + i) nan ≡ getD s (o + i) nan) → part t o k ≡ part s o k
@@ -332,209 +333,253 @@ put-there s o r l e h = record { next = e; put = record { holds = h; kept = kept
 
 -- ---- the rows of the unknowns, near to those that stand
 
-module _ (sheet : List ℕ) (c : SceneStruct) (s u : List Float) (y r p i : ℕ) (laid : Laid sheet c) (h : i < c .m) (r-p : r + c .rows ≤ p)
-    (g : Near (sceneOf sheet c) s p (c .m) i r (c .rows) (part s y (c .n))) (put : Put s u (p + 12 * i) 12 (poseDoubles (bodyPose sheet c (part s y (c .n)) i))) where
-  poses-now : posesIn u p (c .m) ≡ posesAt (sceneOf sheet c) (part s y (c .n))
+module _ (sheet : List ℕ) (c : SceneStruct) (at : PartsStruct) (s u : List Float) (r i : ℕ) (laid : Laid sheet c) (h : i < c .m) (r-p : r + c .rows ≤ at .poses)
+    (g : Near (sceneOf sheet c) c at s i r (part s (at .next) (c .n)))
+    (put : Put s u (at .poses + 12 * i) 12 (poseDoubles (bodyPose sheet c (part s (at .next) (c .n)) i))) where
+  poses-now : posesIn u (at .poses) (c .m) ≡ posesAt (sceneOf sheet c) (part s (at .next) (c .n))
   poses-now =
-      poses-put s u p (c .m) i (bodyPose sheet c (part s y (c .n)) i) h put ∙ g .poses (bodyPose sheet c (part s y (c .n)) i)
-      ∙ poses-back (part s y (c .n)) (sceneOf sheet c .bodies) (layout (sceneOf sheet c)) i (bodyAt sheet (c .bodies + 136 * i)) (firstUnknown (getD (c .index) i 0)) _ _ (bodies-next sheet c i h)
+      poses-put s u (at .poses) (c .m) i (bodyPose sheet c (part s (at .next) (c .n)) i) h put ∙ g .poses (bodyPose sheet c (part s (at .next) (c .n)) i)
+      ∙ poses-back (part s (at .next) (c .n)) (sceneOf sheet c .bodies) (layout (sceneOf sheet c)) i (bodyAt sheet (c .bodies + 136 * i)) (firstUnknown (getD (c .index) i 0)) _ _ (bodies-next sheet c i h)
       (layout-next sheet c i laid h)
 
-  pub near-but : RowsBut (sceneOf sheet c) i (posesIn u p (c .m)) (part u r (c .rows))
+  pub near-but : RowsBut (sceneOf sheet c) i (posesIn u (at .poses) (c .m)) (part u r (c .rows))
   near-but =
       record {
         pose = g .but .pose;
         holds =
-            kept-part-below s u (p + 12 * i) (p + 12 * i + 12) r (c .rows) (omega arith) (put .kept) ∙ g .but .holds
+            kept-part-below s u (at .poses + 12 * i) (at .poses + 12 * i + 12) r (c .rows) (omega arith) (put .kept) ∙ g .but .holds
             ∙ ap (λ (l : List (Pose Float)). allRows (set l i (g .but .pose)) (sceneOf sheet c .rels)) (sym poses-now);
       }
 
-  pub near-rows-is : (t : List Float) → Put u t r (c .rows) (allRows (posesIn u p (c .m)) (sceneOf sheet c .rels)) → NearRows (sceneOf sheet c) s t y (c .n) r (c .rows) p (c .m)
+  pub near-rows-is : (t : List Float) → Put u t r (c .rows) (allRows (posesIn u (at .poses) (c .m)) (sceneOf sheet c .rels)) → NearRows (sceneOf sheet c) c at s t r
   near-rows-is t b =
       record {
         rows-at =
             record {
               size = b .kept .size ∙ put .kept .size;
               holds = b .holds ∙ ap (λ (l : List (Pose Float)). allRows l (sceneOf sheet c .rels)) poses-now;
-              below = λ q k. kept-at-below u t r (r + c .rows) q nan k (b .kept) ∙ kept-at-below s u (p + 12 * i) (p + 12 * i + 12) q nan (omega arith) (put .kept);
-              between = λ q k v. kept-at-above u t r (r + c .rows) q nan k (b .kept) ∙ kept-at-below s u (p + 12 * i) (p + 12 * i + 12) q nan (omega arith) (put .kept);
+              below = λ q k. kept-at-below u t r (r + c .rows) q nan k (b .kept) ∙ kept-at-below s u (at .poses + 12 * i) (at .poses + 12 * i + 12) q nan (omega arith) (put .kept);
+              between = λ q k v. kept-at-above u t r (r + c .rows) q nan k (b .kept) ∙ kept-at-below s u (at .poses + 12 * i) (at .poses + 12 * i + 12) q nan (omega arith) (put .kept);
             };
-        poses = poses-kept u t r (r + c .rows) p (c .m) r-p (b .kept) ∙ poses-now;
+        poses = poses-kept u t r (r + c .rows) (at .poses) (c .m) r-p (b .kept) ∙ poses-now;
       }
 
--- from unknowns to unknowns that differ in body i's only
-near-moved : (sc : Scene) (s t : List Float) (p m i r rows : ℕ) (xs ys : List Float) → ((w : Pose Float) → set (posesAt sc ys) i w ≡ set (posesAt sc xs) i w)
-    → ((w : Pose Float) → set (posesIn t p m) i w ≡ set (posesAt sc xs) i w)
-    → part t r rows ≡ part s r rows → Near sc s p m i r rows xs → Near sc t p m i r rows ys
-near-moved sc s t p m i r rows xs ys d f e g =
-    record {
-      poses = λ w. f w ∙ sym (d w);
-      but = record { pose = g .but .pose; holds = e ∙ g .but .holds ∙ ap (λ (l : List (Pose Float)). allRows l (sc .rels)) (sym (d (g .but .pose))) };
-    }
+module _ (sc : Scene) (c : SceneStruct) (at : PartsStruct) where
+  -- from unknowns to unknowns that differ in body i's only
+  near-moved : (s t : List Float) (i r : ℕ) (xs ys : List Float) → ((w : Pose Float) → set (posesAt sc ys) i w ≡ set (posesAt sc xs) i w)
+      → ((w : Pose Float) → set (posesIn t (at .poses) (c .m)) i w ≡ set (posesAt sc xs) i w)
+      → part t r (c .rows) ≡ part s r (c .rows) → Near sc c at s i r xs → Near sc c at t i r ys
+  near-moved s t i r xs ys d f e g =
+      record {
+        poses = λ w. f w ∙ sym (d w);
+        but = record { pose = g .but .pose; holds = e ∙ g .but .holds ∙ ap (λ (l : List (Pose Float)). allRows l (sc .rels)) (sym (d (g .but .pose))) };
+      }
 
-near-made : (sc : Scene) (t : List Float) (p m i r rows : ℕ) (xs ys : List Float) → ((w : Pose Float) → set (posesAt sc ys) i w ≡ set (posesAt sc xs) i w)
-    → ((w : Pose Float) → set (posesIn t p m) i w ≡ set (posesAt sc xs) i w)
-    → part t r rows ≡ rowsOf sc ys → Near sc t p m i r rows xs
-near-made sc t p m i r rows xs ys d f e =
-    record {
-      poses = f;
-      but =
-          record {
-            pose = getD (posesAt sc ys) i ground;
-            holds = e ∙ ap (λ (l : List (Pose Float)). allRows l (sc .rels)) (sym (set-getD (posesAt sc ys) i ground) ∙ d (getD (posesAt sc ys) i ground));
-          };
-    }
+  near-made : (t : List Float) (i r : ℕ) (xs ys : List Float) → ((w : Pose Float) → set (posesAt sc ys) i w ≡ set (posesAt sc xs) i w)
+      → ((w : Pose Float) → set (posesIn t (at .poses) (c .m)) i w ≡ set (posesAt sc xs) i w)
+      → part t r (c .rows) ≡ rowsOf sc ys → Near sc c at t i r xs
+  near-made t i r xs ys d f e =
+      record {
+        poses = f;
+        but =
+            record {
+              pose = getD (posesAt sc ys) i ground;
+              holds = e ∙ ap (λ (l : List (Pose Float)). allRows l (sc .rels)) (sym (set-getD (posesAt sc ys) i ground) ∙ d (getD (posesAt sc ys) i ground));
+            };
+      }
 
-pub near-as : (sc : Scene) (s : List Float) (p m i r rows : ℕ) (xs ys : List Float) → ys ≡ xs → Near sc s p m i r rows xs → Near sc s p m i r rows ys
-near-as sc s p m i r rows xs ys e g = subst (Near sc s p m i r rows) (sym e) g
+  near-as : (s : List Float) (i r : ℕ) (xs ys : List Float) → ys ≡ xs → Near sc c at s i r xs → Near sc c at s i r ys
+  near-as s i r xs ys e g = subst (Near sc c at s i r) (sym e) g
+
+  pub standing-as : (s xs ys : List Float) → ys ≡ xs → Standing sc c at s xs → Standing sc c at s ys
+  standing-as s xs ys e g = subst (Standing sc c at s) (sym e) g
+
+  pub standing-but-as : (s : List Float) (i : ℕ) (xs ys : List Float) → ys ≡ xs → StandingBut sc c at s i xs → StandingBut sc c at s i ys
+  standing-but-as s i xs ys e g = subst (StandingBut sc c at s i) (sym e) g
 
 poses-set : (s : List Float) (q p m : ℕ) (v : Float) → q < p → posesIn (set s q v) p m ≡ posesIn s p m
 poses-set s q p m v h = poses-kept s (set s q v) q (q + 1) p m (omega arith) (kept-set s s q (q + 1) q v (omega arith) (omega arith) (kept-refl s q (q + 1)))
 
 -- ---- one column
 
-module _ (sc : Scene) (s : List Float) (n rows x y a b p m i c : ℕ) (c-in : c < n) (y-a : y + n ≤ a) (a-b : a + rows ≤ b) (b-p : b + rows ≤ p) (among : Among sc i c)
-    (same : part s y n ≡ part s x n) where
-  copy-set : (u : Float) → part (set s (y + c) u) y n ≡ set (part s x n) c u
-  copy-set u = part-set s y n c u c-in ∙ ap (λ (l : List Float). set l c u) same
+module _ (sc : Scene) (c : SceneStruct) (at : PartsStruct) (s : List Float) (size i k : ℕ) (apart : Apart c at size) (k-in : k < c .n) (among : Among sc i k)
+    (stand : StandingBut sc c at s i (unknownsAt c at s)) where
+  copy-set : (u : Float) → part (set s (at .next + k) u) (at .next) (c .n) ≡ set (unknownsAt c at s) k u
+  copy-set u = part-set s (at .next) (c .n) k u k-in ∙ ap (λ (l : List Float). set l k u) (stand .copy)
 
-  pub first-near : (u : Float) → Near sc s p m i a rows (part s x n) → Near sc (set s (y + c) u) p m i a rows (part (set s (y + c) u) y n)
-  first-near u g =
-      near-as sc (set s (y + c) u) p m i a rows (set (part s x n) c u) (part (set s (y + c) u) y n) (copy-set u)
-      (near-moved sc s (set s (y + c) u) p m i a rows (part s x n) (set (part s x n) c u) (λ w. unknown-far sc i c (part s x n) u w among)
-      (λ w. ap (λ (l : List (Pose Float)). set l i w) (poses-set s (y + c) p m u (omega arith)) ∙ g .poses w)
-      (part-set-below s a rows (y + c) u (omega arith))
-      g)
+  pub first-near : (u : Float) → Near sc c at (set s (at .next + k) u) i (at .ahead) (part (set s (at .next + k) u) (at .next) (c .n))
+  first-near u =
+      near-as sc c at (set s (at .next + k) u) i (at .ahead) (set (unknownsAt c at s) k u) (part (set s (at .next + k) u) (at .next) (c .n)) (copy-set u)
+      (near-moved sc c at s (set s (at .next + k) u) i (at .ahead) (unknownsAt c at s) (set (unknownsAt c at s) k u) (λ w. unknown-far sc i k (unknownsAt c at s) u w among)
+      (λ w. ap (λ (l : List (Pose Float)). set l i w) (poses-set s (at .next + k) (at .poses) (c .m) u (omega arith)) ∙ stand .ahead .poses w)
+      (part-set-below s (at .ahead) (c .rows) (at .next + k) u (omega arith))
+      (stand .ahead))
 
-  module _ (s2 : List Float) (u : Float) (up : NearRows sc (set s (y + c) u) s2 y n a rows p m) where
-    copy-up : part s2 y n ≡ set (part s x n) c u
-    copy-up = part-same (set s (y + c) u) s2 y n (up .rows-at .size) (λ k l. up .rows-at .below (y + k) (omega arith)) ∙ copy-set u
+  module _ (s2 : List Float) (u : Float) (up : NearRows sc c at (set s (at .next + k) u) s2 (at .ahead)) where
+    copy-up : part s2 (at .next) (c .n) ≡ set (unknownsAt c at s) k u
+    copy-up = part-same (set s (at .next + k) u) s2 (at .next) (c .n) (up .rows-at .size) (λ q l. up .rows-at .below (at .next + q) (omega arith)) ∙ copy-set u
 
-    copy-again : (u2 : Float) → part (set s2 (y + c) u2) y n ≡ set (part s x n) c u2
-    copy-again u2 = part-set s2 y n c u2 c-in ∙ ap (λ (l : List Float). set l c u2) copy-up ∙ set-set (part s x n) c u u2
+    copy-again : (u2 : Float) → part (set s2 (at .next + k) u2) (at .next) (c .n) ≡ set (unknownsAt c at s) k u2
+    copy-again u2 = part-set s2 (at .next) (c .n) k u2 k-in ∙ ap (λ (l : List Float). set l k u2) copy-up ∙ set-set (unknownsAt c at s) k u u2
 
-    poses-up : (w : Pose Float) → set (posesIn s2 p m) i w ≡ set (posesAt sc (part s x n)) i w
-    poses-up w = ap (λ (l : List (Pose Float)). set l i w) (up .poses ∙ ap (posesAt sc) (copy-set u)) ∙ unknown-far sc i c (part s x n) u w among
+    poses-up : (w : Pose Float) → set (posesIn s2 (at .poses) (c .m)) i w ≡ set (posesAt sc (unknownsAt c at s)) i w
+    poses-up w = ap (λ (l : List (Pose Float)). set l i w) (up .poses ∙ ap (posesAt sc) (copy-set u)) ∙ unknown-far sc i k (unknownsAt c at s) u w among
 
-    pub second-near : (u2 : Float) → Near sc s p m i b rows (part s x n) → Near sc (set s2 (y + c) u2) p m i b rows (part (set s2 (y + c) u2) y n)
-    second-near u2 g =
-        near-as sc (set s2 (y + c) u2) p m i b rows (set (part s x n) c u2) (part (set s2 (y + c) u2) y n) (copy-again u2)
-        (near-moved sc s (set s2 (y + c) u2) p m i b rows (part s x n) (set (part s x n) c u2) (λ w. unknown-far sc i c (part s x n) u2 w among)
-        (λ w. ap (λ (l : List (Pose Float)). set l i w) (poses-set s2 (y + c) p m u2 (omega arith)) ∙ poses-up w)
-        (part-set-below s2 b rows (y + c) u2 (omega arith)
-        ∙ part-same (set s (y + c) u) s2 b rows (up .rows-at .size) (λ k l. up .rows-at .between (b + k) (omega arith) (omega arith))
-        ∙ part-set-below s b rows (y + c) u (omega arith))
-        g)
+    pub second-near : (u2 : Float) → Near sc c at (set s2 (at .next + k) u2) i (at .behind) (part (set s2 (at .next + k) u2) (at .next) (c .n))
+    second-near u2 =
+        near-as sc c at (set s2 (at .next + k) u2) i (at .behind) (set (unknownsAt c at s) k u2) (part (set s2 (at .next + k) u2) (at .next) (c .n)) (copy-again u2)
+        (near-moved sc c at s (set s2 (at .next + k) u2) i (at .behind) (unknownsAt c at s) (set (unknownsAt c at s) k u2) (λ w. unknown-far sc i k (unknownsAt c at s) u2 w among)
+        (λ w. ap (λ (l : List (Pose Float)). set l i w) (poses-set s2 (at .next + k) (at .poses) (c .m) u2 (omega arith)) ∙ poses-up w)
+        (part-set-below s2 (at .behind) (c .rows) (at .next + k) u2 (omega arith)
+        ∙ part-same (set s (at .next + k) u) s2 (at .behind) (c .rows) (up .rows-at .size) (λ q l. up .rows-at .between (at .behind + q) (omega arith) (omega arith))
+        ∙ part-set-below s (at .behind) (c .rows) (at .next + k) u (omega arith))
+        (stand .behind))
 
-    module _ (s4 t : List Float) (u2 v : Float) (j : ℕ) (f : ℕ → Float) (j-a : j + rows * n ≤ a) (down : NearRows sc (set s2 (y + c) u2) s4 y n b rows p m)
-        (col : Column (set s4 (y + c) v) t j n rows c f) where
-      poses-end : (w : Pose Float) → set (posesIn t p m) i w ≡ set (posesAt sc (part s x n)) i w
+    module _ (s4 t : List Float) (u2 v : Float) (f : ℕ → Float) (down : NearRows sc c at (set s2 (at .next + k) u2) s4 (at .behind)) (col : Column (set s4 (at .next + k) v) t (at .slopes) (c .n) (c .rows) k f) where
+      poses-end : (w : Pose Float) → set (posesIn t (at .poses) (c .m)) i w ≡ set (posesAt sc (unknownsAt c at s)) i w
       poses-end w =
           ap (λ (l : List (Pose Float)). set l i w)
-          (poses-kept (set s4 (y + c) v) t j (j + rows * n) p m (omega arith) (col .kept) ∙ poses-set s4 (y + c) p m v (omega arith) ∙ down .poses ∙ ap (posesAt sc) (copy-again u2))
-          ∙ unknown-far sc i c (part s x n) u2 w among
+          (poses-kept (set s4 (at .next + k) v) t (at .slopes) (at .slopes + c .rows * c .n) (at .poses) (c .m) (omega arith) (col .kept) ∙ poses-set s4 (at .next + k) (at .poses) (c .m) v (omega arith) ∙ down .poses ∙ ap (posesAt sc) (copy-again u2))
+          ∙ unknown-far sc i k (unknownsAt c at s) u2 w among
 
-      pub ahead-near : Near sc t p m i a rows (part s x n)
+      ahead-near : Near sc c at t i (at .ahead) (unknownsAt c at s)
       ahead-near =
-          near-made sc t p m i a rows (part s x n) (set (part s x n) c u) (λ w. unknown-far sc i c (part s x n) u w among) poses-end
-          (kept-part-above (set s4 (y + c) v) t j (j + rows * n) a rows j-a (col .kept) ∙ part-set-below s4 a rows (y + c) v (omega arith)
-          ∙ part-same (set s2 (y + c) u2) s4 a rows (down .rows-at .size) (λ k l. down .rows-at .below (a + k) (omega arith))
-          ∙ part-set-below s2 a rows (y + c) u2 (omega arith)
+          near-made sc c at t i (at .ahead) (unknownsAt c at s) (set (unknownsAt c at s) k u) (λ w. unknown-far sc i k (unknownsAt c at s) u w among) poses-end
+          (kept-part-above (set s4 (at .next + k) v) t (at .slopes) (at .slopes + c .rows * c .n) (at .ahead) (c .rows) (omega arith) (col .kept) ∙ part-set-below s4 (at .ahead) (c .rows) (at .next + k) v (omega arith)
+          ∙ part-same (set s2 (at .next + k) u2) s4 (at .ahead) (c .rows) (down .rows-at .size) (λ q l. down .rows-at .below (at .ahead + q) (omega arith))
+          ∙ part-set-below s2 (at .ahead) (c .rows) (at .next + k) u2 (omega arith)
           ∙ up .rows-at .holds
           ∙ ap (rowsOf sc) (copy-set u))
 
-      pub behind-near : Near sc t p m i b rows (part s x n)
+      behind-near : Near sc c at t i (at .behind) (unknownsAt c at s)
       behind-near =
-          near-made sc t p m i b rows (part s x n) (set (part s x n) c u2) (λ w. unknown-far sc i c (part s x n) u2 w among) poses-end
-          (kept-part-above (set s4 (y + c) v) t j (j + rows * n) b rows (omega arith) (col .kept) ∙ part-set-below s4 b rows (y + c) v (omega arith) ∙ down .rows-at .holds
+          near-made sc c at t i (at .behind) (unknownsAt c at s) (set (unknownsAt c at s) k u2) (λ w. unknown-far sc i k (unknownsAt c at s) u2 w among) poses-end
+          (kept-part-above (set s4 (at .next + k) v) t (at .slopes) (at .slopes + c .rows * c .n) (at .behind) (c .rows) (omega arith) (col .kept) ∙ part-set-below s4 (at .behind) (c .rows) (at .next + k) v (omega arith) ∙ down .rows-at .holds
           ∙ ap (rowsOf sc) (copy-again u2))
+
+      -- the copy is as it was, since the unknown is put back
+      copy-end : v ≡ getD s (at .x + k) nan → part t (at .next) (c .n) ≡ unknownsAt c at s
+      copy-end e =
+          let q : v ≡ getD (unknownsAt c at s) k nan = e ∙ sym (part-at s (at .x) (c .n) k nan k-in) in
+          kept-part-above (set s4 (at .next + k) v) t (at .slopes) (at .slopes + c .rows * c .n) (at .next) (c .n) (omega arith) (col .kept)
+          ∙ part-set s4 (at .next) (c .n) k v k-in
+          ∙ ap (λ (l : List Float). set l k v) (part-same (set s2 (at .next + k) u2) s4 (at .next) (c .n) (down .rows-at .size) (λ q l. down .rows-at .below (at .next + q) (omega arith)) ∙ copy-again u2)
+          ∙ set-set (unknownsAt c at s) k u2 v
+          ∙ ap (set (unknownsAt c at s) k) q
+          ∙ set-getD (unknownsAt c at s) k nan
+
+      pub standing-end : v ≡ getD s (at .x + k) nan → StandingBut sc c at t i (unknownsAt c at s)
+      standing-end e = record { copy = copy-end e; ahead = ahead-near; behind = behind-near }
+
+pub near-column-is : (sc : Scene) (c : SceneStruct) (at : PartsStruct) (s s2 s4 t : List Float) (i k : ℕ) (v h : Float) → Apart c at (length s) → k < c .n → Among sc i k
+    → StandingBut sc c at s i (unknownsAt c at s)
+    → v ≡ getD s (at .x + k) nan → h ≡ stepOf v → NearRows sc c at (set s (at .next + k) (add binary64 v h)) s2 (at .ahead)
+    → NearRows sc c at (set s2 (at .next + k) (sub binary64 v h)) s4 (at .behind)
+    → Column (set s4 (at .next + k) v) t (at .slopes) (c .n) (c .rows) k
+    (λ q. slopeOf (getD (set s4 (at .next + k) v) (at .ahead + q) nan) (getD (set s4 (at .next + k) v) (at .behind + q) nan) h)
+    → NearColumn sc c at s t i k
+near-column-is sc c at s s2 s4 t i k v h apart k-in among stand v-is h-is up down col =
+    record {
+      column =
+          slope-column-is sc s s2 s4 t (at .slopes) (c .n) (c .rows) (at .x) (at .next) (at .ahead) (at .behind) (at .poses) k v h k-in (apart .x) (apart .slopes) (apart .next) (apart .ahead)
+          (apart .behind)
+          (omega arith)
+          (stand .copy)
+          v-is
+          h-is
+          (up .rows-at)
+          (down .rows-at)
+          col;
+      standing = standing-end sc c at s (length s) i k apart k-in among stand s2 (add binary64 v h) up s4 t (sub binary64 v h) v _ down col v-is;
+    }
 
 -- ---- six columns
 
-pub columns-from-start : (sc : Scene) (s : List Float) (j n rows x a k : ℕ) → ColumnsFrom sc s s j n rows x a k (k + 0)
-columns-from-start sc s j n rows x a k =
-    record { size = refl; entries = λ i d h l m. absurd (omega arith); others = λ i d h l. refl; below = λ q h. refl; between = λ q h l. refl }
+module _ (sc : Scene) (c : SceneStruct) (at : PartsStruct) where
+  pub columns-from-start : (s : List Float) (k : ℕ) → ColumnsFrom sc c at s s k (k + 0)
+  columns-from-start s k = record { size = refl; entries = λ i d h l m. absurd (omega arith); others = λ i d h l. refl; below = λ q h. refl; between = λ q h l. refl }
 
--- the unknowns, and their copy, are as they were
-pub columns-from-part : (sc : Scene) (s t : List Float) (j n rows x a lo hi o : ℕ) → j + rows * n ≤ o → o + n ≤ a → ColumnsFrom sc s t j n rows x a lo hi → part t o n ≡ part s o n
-columns-from-part sc s t j n rows x a lo hi o h l g = part-same s t o n (g .size) (λ i m. g .between (o + i) (omega arith) (omega arith))
+  module _ (size : ℕ) (apart : Apart c at size) where
+    -- the unknowns are as they were
+    pub columns-from-part : (s t : List Float) (lo hi : ℕ) → ColumnsFrom sc c at s t lo hi → unknownsAt c at t ≡ unknownsAt c at s
+    columns-from-part s t lo hi g = part-same s t (at .x) (c .n) (g .size) (λ i l. g .below (at .x + i) (omega arith))
 
-pub columns-from-step : (sc : Scene) (s t u : List Float) (j n rows x a k e : ℕ) → k + e < n → j + rows * n ≤ x → x + n ≤ a → ColumnsFrom sc s t j n rows x a k (k + e)
-    → SlopeColumn sc t u j n rows x a (k + e) → ColumnsFrom sc s u j n rows x a k (k + (e + 1))
-columns-from-step sc s t u j n rows x a k e h l m g y =
-    record {
-      size = y .size ∙ g .size;
-      entries = entries;
-      others = λ i d w v. y .others i d w (omega arith) (λ q. absurd (omega arith)) ∙ g .others i d w v;
-      below = λ q w. y .below q w ∙ g .below q w;
-      between = λ q w v. y .between q w v ∙ g .between q w v;
-    }
-  where
-    entries : (i d : ℕ) → i < rows → k ≤ d → d < k + (e + 1) → getD u (j + (i * n + d)) nan ≡ slope (rowsOf sc) (part s x n) i d
-    entries i d w v r =
-        elim (ℕ-discrete d (k + e)) [
-          | yes f ↦
-              ap (λ (q : ℕ). getD u (j + (i * n + q)) nan) f ∙ y .entries i w
-              ∙ ap (λ (q : List Float). slope (rowsOf sc) q i (k + e)) (columns-from-part sc s t j n rows x a k (k + e) x l m g)
-              ∙ ap (slope (rowsOf sc) (part s x n) i) (sym f)
-          | no f ↦ y .others i d w (omega arith) f ∙ g .entries i d w v (omega arith)
-        ]
+    pub columns-from-step : (s t u : List Float) (k e : ℕ) → k + e < c .n → ColumnsFrom sc c at s t k (k + e)
+        → SlopeColumn sc t u (at .slopes) (c .n) (c .rows) (at .x) (at .ahead) (k + e)
+        → ColumnsFrom sc c at s u k (k + (e + 1))
+    columns-from-step s t u k e h g y =
+        record {
+          size = y .size ∙ g .size;
+          entries = entries;
+          others = λ i d w v. y .others i d w (omega arith) (λ q. absurd (omega arith)) ∙ g .others i d w v;
+          below = λ q w. y .below q w ∙ g .below q w;
+          between = λ q w v. y .between q w v ∙ g .between q w v;
+        }
+      where
+        entries : (i d : ℕ) → i < c .rows → k ≤ d → d < k + (e + 1) → getD u (at .slopes + (i * c .n + d)) nan ≡ slope (rowsOf sc) (unknownsAt c at s) i d
+        entries i d w v r =
+            elim (ℕ-discrete d (k + e)) [
+              | yes f ↦
+                  ap (λ (q : ℕ). getD u (at .slopes + (i * c .n + q)) nan) f ∙ y .entries i w
+                  ∙ ap (λ (q : List Float). slope (rowsOf sc) q i (k + e)) (columns-from-part s t k (k + e) g)
+                  ∙ ap (slope (rowsOf sc) (unknownsAt c at s) i) (sym f)
+              | no f ↦ y .others i d w (omega arith) f ∙ g .entries i d w v (omega arith)
+            ]
 
-pub near-part : (sc : Scene) (s t u : List Float) (j n rows x a lo hi p m i r : ℕ) → j + rows * n ≤ x → x + n ≤ a → ColumnsFrom sc s t j n rows x a lo hi
-    → Near sc u p m i r rows (part t x n) → Near sc u p m i r rows (part s x n)
-near-part sc s t u j n rows x a lo hi p m i r h l g y = subst (Near sc u p m i r rows) (columns-from-part sc s t j n rows x a lo hi x h l g) y
-
-pub columns-from-end : (sc : Scene) (s t : List Float) (j n rows x a k e : ℕ) → e ≡ 6 → ColumnsFrom sc s t j n rows x a k (k + e) → ColumnsFrom sc s t j n rows x a k (k + 6)
-columns-from-end sc s t j n rows x a k e f g = subst (λ (q : ℕ). ColumnsFrom sc s t j n rows x a k (k + q)) f g
+  pub columns-from-end : (s t : List Float) (k e : ℕ) → e ≡ 6 → ColumnsFrom sc c at s t k (k + e) → ColumnsFrom sc c at s t k (k + 6)
+  columns-from-end s t k e f g = subst (λ (q : ℕ). ColumnsFrom sc c at s t k (k + q)) f g
 
 -- ---- a body put back
 
-pub standing-near : (sc : Scene) (s : List Float) (rows p m i r : ℕ) (xs : List Float) → posesIn s p m ≡ posesAt sc xs → part s r rows ≡ rowsOf sc xs → Near sc s p m i r rows xs
-standing-near sc s rows p m i r xs e f = near-made sc s p m i r rows xs xs (λ w. refl) (λ w. ap (λ (l : List (Pose Float)). set l i w) e) f
+module _ (sc : Scene) (c : SceneStruct) (at : PartsStruct) where
+  pub standing-near : (s : List Float) (i : ℕ) (xs : List Float) → Standing sc c at s xs → StandingBut sc c at s i xs
+  standing-near s i xs g =
+      record {
+        copy = g .copy;
+        ahead = near-made sc c at s i (at .ahead) xs xs (λ w. refl) (λ w. ap (λ (l : List (Pose Float)). set l i w) (g .poses)) (g .ahead);
+        behind = near-made sc c at s i (at .behind) xs xs (λ w. refl) (λ w. ap (λ (l : List (Pose Float)). set l i w) (g .poses)) (g .behind);
+      }
 
-module _ (sc : Scene) (s s1 s2 : List Float) (j n rows x y a b p m i k : ℕ) (j-x : j + rows * n ≤ x) (x-y : x + n ≤ y) (y-a : y + n ≤ a) (a-b : a + rows ≤ b) (b-p : b + rows ≤ p)
-    (k-n : k + 6 ≤ n) (same : part s y n ≡ part s x n) (six : SixColumns sc s s1 j n rows x a b p m i k) where
-  copy-six : part s1 y n ≡ part s x n
-  copy-six = columns-from-part sc s s1 j n rows x a k (k + 6) y (omega arith) (omega arith) (six .columns) ∙ same
+module _ (sc : Scene) (c : SceneStruct) (at : PartsStruct) (s s1 s2 : List Float) (size i k : ℕ) (apart : Apart c at size) (k-n : k + 6 ≤ c .n) (six : SixColumns sc c at s s1 i k) where
+  pub six-near : Near sc c at s1 i (at .ahead) (part s1 (at .next) (c .n))
+  six-near = near-as sc c at s1 i (at .ahead) (unknownsAt c at s) (part s1 (at .next) (c .n)) (six .standing .copy) (six .standing .ahead)
 
-  pub six-near : Near sc s1 p m i a rows (part s1 y n)
-  six-near = near-as sc s1 p m i a rows (part s x n) (part s1 y n) copy-six (six .ahead)
+  module _ (first : NearRows sc c at s1 s2 (at .ahead)) where
+    copy-first : part s2 (at .next) (c .n) ≡ unknownsAt c at s
+    copy-first = part-same s1 s2 (at .next) (c .n) (first .rows-at .size) (λ q l. first .rows-at .below (at .next + q) (omega arith)) ∙ six .standing .copy
 
-  module _ (first : NearRows sc s1 s2 y n a rows p m) where
-    copy-first : part s2 y n ≡ part s x n
-    copy-first = part-same s1 s2 y n (first .rows-at .size) (λ q l. first .rows-at .below (y + q) (omega arith)) ∙ copy-six
+    poses-first : posesIn s2 (at .poses) (c .m) ≡ posesAt sc (unknownsAt c at s)
+    poses-first = first .poses ∙ ap (posesAt sc) (six .standing .copy)
 
-    poses-first : posesIn s2 p m ≡ posesAt sc (part s x n)
-    poses-first = first .poses ∙ ap (posesAt sc) copy-six
-
-    pub back-near : Near sc s2 p m i b rows (part s2 y n)
+    pub back-near : Near sc c at s2 i (at .behind) (part s2 (at .next) (c .n))
     back-near =
-        near-as sc s2 p m i b rows (part s x n) (part s2 y n) copy-first
-        (near-moved sc s1 s2 p m i b rows (part s x n) (part s x n) (λ w. refl) (λ w. ap (λ (l : List (Pose Float)). set l i w) poses-first)
-        (part-same s1 s2 b rows (first .rows-at .size) (λ q l. first .rows-at .between (b + q) (omega arith) (omega arith)))
-        (six .behind))
+        near-as sc c at s2 i (at .behind) (unknownsAt c at s) (part s2 (at .next) (c .n)) copy-first
+        (near-moved sc c at s1 s2 i (at .behind) (unknownsAt c at s) (unknownsAt c at s) (λ w. refl) (λ w. ap (λ (l : List (Pose Float)). set l i w) poses-first)
+        (part-same s1 s2 (at .behind) (c .rows) (first .rows-at .size) (λ q l. first .rows-at .between (at .behind + q) (omega arith) (omega arith)))
+        (six .standing .behind))
 
-    before-back : (t : List Float) → NearRows sc s2 t y n b rows p m → (q : ℕ) → q < a → getD t q nan ≡ getD s1 q nan
+    before-back : (t : List Float) → NearRows sc c at s2 t (at .behind) → (q : ℕ) → q < at .ahead → getD t q nan ≡ getD s1 q nan
     before-back t second q h = second .rows-at .below q (omega arith) ∙ first .rows-at .below q h
 
-    slope-place : (q d : ℕ) → q < rows → d < n → j + (q * n + d) < a
-    slope-place q d h l = let w = in-rows q d n rows h l in omega arith
+    slope-place : (q d : ℕ) → q < c .rows → d < c .n → at .slopes + (q * c .n + d) < at .ahead
+    slope-place q d h l = let w = in-rows q d (c .n) (c .rows) h l in omega arith
 
-    pub body-columns-is : (t : List Float) → NearRows sc s2 t y n b rows p m → BodyColumns sc s t j n rows x a b p m k (k + 6)
+    pub body-columns-is : (t : List Float) → NearRows sc c at s2 t (at .behind) → BodyColumns sc c at s t k (k + 6)
     body-columns-is t second =
         record {
           columns =
               record {
                 size = second .rows-at .size ∙ first .rows-at .size ∙ six .columns .size;
-                entries = λ q d h l w. before-back t second (j + (q * n + d)) (slope-place q d h (omega arith)) ∙ six .columns .entries q d h l w;
-                others = λ q d h l. before-back t second (j + (q * n + d)) (slope-place q d h (omega arith)) ∙ six .columns .others q d h l;
+                entries = λ q d h l w. before-back t second (at .slopes + (q * c .n + d)) (slope-place q d h (omega arith)) ∙ six .columns .entries q d h l w;
+                others = λ q d h l. before-back t second (at .slopes + (q * c .n + d)) (slope-place q d h (omega arith)) ∙ six .columns .others q d h l;
                 below = λ q h. before-back t second q (omega arith) ∙ six .columns .below q h;
                 between = λ q h l. before-back t second q l ∙ six .columns .between q h l;
               };
           standing =
               record {
+                copy = part-same s2 t (at .next) (c .n) (second .rows-at .size) (λ q l. second .rows-at .below (at .next + q) (omega arith)) ∙ copy-first;
                 poses = second .poses ∙ ap (posesAt sc) copy-first;
-                ahead = part-same s2 t a rows (second .rows-at .size) (λ q l. second .rows-at .below (a + q) (omega arith)) ∙ first .rows-at .holds ∙ ap (rowsOf sc) copy-six;
+                ahead = part-same s2 t (at .ahead) (c .rows) (second .rows-at .size) (λ q l. second .rows-at .below (at .ahead + q) (omega arith)) ∙ first .rows-at .holds ∙ ap (rowsOf sc) (six .standing .copy);
                 behind = second .rows-at .holds ∙ ap (rowsOf sc) copy-first;
               };
         }
@@ -549,17 +594,17 @@ first-none : (sheet : List ℕ) (c : SceneStruct) (i : ℕ) → Laid sheet c →
 unfolding firstUnknown
 first-none sheet c i laid h e = laid .index i h ∙ rw (eq-eqb (getD (c .index) i 0) 0xFFFF e)
 
-pub body-some : (sheet : List ℕ) (c : SceneStruct) (s t : List Float) (j x a b p i k : ℕ) → getD (layout (sceneOf sheet c)) i none ≡ some k
-    → BodyColumns (sceneOf sheet c) s t j (c .n) (c .rows) x a b p (c .m) k (k + 6)
-    → BodyColumns (sceneOf sheet c) s t j (c .n) (c .rows) x a b p (c .m) (given (sceneOf sheet c) i) (given (sceneOf sheet c) (i + 1))
-body-some sheet c s t j x a b p i k e g =
-    subst (λ (q : ℕ). BodyColumns (sceneOf sheet c) s t j (c .n) (c .rows) x a b p (c .m) (given (sceneOf sheet c) i) q) (given-next (sceneOf sheet c) i k e)
-    (subst (λ (q : ℕ). BodyColumns (sceneOf sheet c) s t j (c .n) (c .rows) x a b p (c .m) q (k + 6)) (given-first (sceneOf sheet c) i k e) g)
+pub body-some : (sheet : List ℕ) (c : SceneStruct) (at : PartsStruct) (s t : List Float) (i k : ℕ) → getD (layout (sceneOf sheet c)) i none ≡ some k
+    → BodyColumns (sceneOf sheet c) c at s t k (k + 6)
+    → BodyColumns (sceneOf sheet c) c at s t (given (sceneOf sheet c) i) (given (sceneOf sheet c) (i + 1))
+body-some sheet c at s t i k e g =
+    subst (λ (q : ℕ). BodyColumns (sceneOf sheet c) c at s t (given (sceneOf sheet c) i) q) (given-next (sceneOf sheet c) i k e)
+    (subst (λ (q : ℕ). BodyColumns (sceneOf sheet c) c at s t q (k + 6)) (given-first (sceneOf sheet c) i k e) g)
 
-pub body-none : (sheet : List ℕ) (c : SceneStruct) (s : List Float) (j x a b p i : ℕ) → Laid sheet c → i < c .m → getD (c .index) i 0 ≡ 0xFFFF
-    → Standing (sceneOf sheet c) s a b (c .rows) p (c .m) (part s x (c .n))
-    → BodyColumns (sceneOf sheet c) s s j (c .n) (c .rows) x a b p (c .m) (given (sceneOf sheet c) i) (given (sceneOf sheet c) (i + 1))
-body-none sheet c s j x a b p i laid h e g =
+pub body-none : (sheet : List ℕ) (c : SceneStruct) (at : PartsStruct) (s : List Float) (i : ℕ) → Laid sheet c → i < c .m → getD (c .index) i 0 ≡ 0xFFFF
+    → Standing (sceneOf sheet c) c at s (unknownsAt c at s)
+    → BodyColumns (sceneOf sheet c) c at s s (given (sceneOf sheet c) i) (given (sceneOf sheet c) (i + 1))
+body-none sheet c at s i laid h e g =
     let w = given-still (sceneOf sheet c) i (first-none sheet c i laid h e) in
     record {
       columns = record { size = refl; entries = λ q d l k v. absurd (omega arith); others = λ q d l k. refl; below = λ q l. refl; between = λ q l k. refl };
@@ -568,89 +613,89 @@ body-none sheet c s j x a b p i laid h e g =
 
 -- ---- the start
 
-pub started-is : (sheet : List ℕ) (c : SceneStruct) (s s1 s2 t : List Float) (x a b p : ℕ) → a + c .rows ≤ b → b + c .rows ≤ p
-    → Put s s1 p (12 * c .m) (posesDoubles (posesAt (sceneOf sheet c) (part s x (c .n))))
-    → Put s1 s2 a (c .rows) (allRows (posesIn s1 p (c .m)) (sceneOf sheet c .rels)) → Copied s2 t a b (c .rows)
-    → Started (sceneOf sheet c) s t x (c .n) a b (c .rows) p (c .m)
-started-is sheet c s s1 s2 t x a b p h l y z w =
-    let n : length (posesAt (sceneOf sheet c) (part s x (c .n))) ≡ c .m
-    = length-poses (part s x (c .n)) (sceneOf sheet c .bodies) (layout (sceneOf sheet c)) (length-layout (sceneOf sheet c .rels) 0 0 (sceneOf sheet c .bodies)) ∙ length-bodies sheet c in
-    let e = poses-there s1 p (12 * c .m) (posesAt (sceneOf sheet c) (part s x (c .n))) (y .holds) (ap (λ (v : ℕ). 12 * v) n) (c .m) n in
-    let f : part s2 a (c .rows) ≡ rowsOf (sceneOf sheet c) (part s x (c .n)) = z .holds ∙ ap (λ (q : List (Pose Float)). allRows q (sceneOf sheet c .rels)) e in
+pub started-is : (sheet : List ℕ) (c : SceneStruct) (at : PartsStruct) (s s1 s2 s3 t : List Float) → Apart c at (length s) → Copied s s1 (at .x) (at .next) (c .n)
+    → Put s1 s2 (at .poses) (12 * c .m) (posesDoubles (posesAt (sceneOf sheet c) (unknownsAt c at s1)))
+    → Put s2 s3 (at .ahead) (c .rows) (allRows (posesIn s2 (at .poses) (c .m)) (sceneOf sheet c .rels)) → Copied s3 t (at .ahead) (at .behind) (c .rows)
+    → Started (sceneOf sheet c) c at s t
+started-is sheet c at s s1 s2 s3 t apart x y z w =
+    let p = at .poses in
+    let a = at .ahead in
+    let b = at .behind in
+    let xs = unknownsAt c at s in
+    let u : unknownsAt c at s1 ≡ xs = kept-part-below s s1 (at .next) (at .next + c .n) (at .x) (c .n) (omega arith) (x .kept) in
+    let n : length (posesAt (sceneOf sheet c) (unknownsAt c at s1)) ≡ c .m
+    = length-poses (unknownsAt c at s1) (sceneOf sheet c .bodies) (layout (sceneOf sheet c)) (length-layout (sceneOf sheet c .rels) 0 0 (sceneOf sheet c .bodies)) ∙ length-bodies sheet c in
+    let e : posesIn s2 p (c .m) ≡ posesAt (sceneOf sheet c) xs
+    = poses-there s2 p (12 * c .m) (posesAt (sceneOf sheet c) (unknownsAt c at s1)) (y .holds) (ap (λ (v : ℕ). 12 * v) n) (c .m) n ∙ ap (posesAt (sceneOf sheet c)) u in
+    let f : part s3 a (c .rows) ≡ rowsOf (sceneOf sheet c) xs = z .holds ∙ ap (λ (q : List (Pose Float)). allRows q (sceneOf sheet c .rels)) e in
     record {
-      size = w .kept .size ∙ z .kept .size ∙ y .kept .size;
+      size = w .kept .size ∙ z .kept .size ∙ y .kept .size ∙ x .kept .size;
       standing =
           record {
-            poses = poses-kept s2 t b (b + c .rows) p (c .m) l (w .kept) ∙ poses-kept s1 s2 a (a + c .rows) p (c .m) (omega arith) (z .kept) ∙ e;
-            ahead = kept-part-below s2 t b (b + c .rows) a (c .rows) h (w .kept) ∙ f;
+            copy =
+                kept-part-below s3 t b (b + c .rows) (at .next) (c .n) (omega arith) (w .kept) ∙ kept-part-below s2 s3 a (a + c .rows) (at .next) (c .n) (omega arith) (z .kept)
+                ∙ kept-part-below s1 s2 p (p + 12 * c .m) (at .next) (c .n) (omega arith) (y .kept)
+                ∙ x .copy;
+            poses = poses-kept s3 t b (b + c .rows) p (c .m) (omega arith) (w .kept) ∙ poses-kept s2 s3 a (a + c .rows) p (c .m) (omega arith) (z .kept) ∙ e;
+            ahead = kept-part-below s3 t b (b + c .rows) a (c .rows) (omega arith) (w .kept) ∙ f;
             behind = w .copy ∙ f;
           };
       below =
           λ q k.
-          kept-at-below s2 t b (b + c .rows) q nan (omega arith) (w .kept) ∙ kept-at-below s1 s2 a (a + c .rows) q nan k (z .kept)
-          ∙ kept-at-below s s1 p (p + 12 * c .m) q nan (omega arith) (y .kept);
+          kept-at-below s3 t b (b + c .rows) q nan (omega arith) (w .kept) ∙ kept-at-below s2 s3 a (a + c .rows) q nan (omega arith) (z .kept)
+          ∙ kept-at-below s1 s2 p (p + 12 * c .m) q nan (omega arith) (y .kept)
+          ∙ kept-at-below s s1 (at .next) (at .next + c .n) q nan k (x .kept);
     }
 
 -- ---- all bodies
 
-pub slopes-start : (sc : Scene) (s : List Float) (j n rows x a : ℕ) → Columns sc s s j n rows x a (given sc 0)
-unfolding unknownsIn
-slopes-start sc s j n rows x a = columns-start sc s j n rows x a
+module _ (sc : Scene) (c : SceneStruct) (at : PartsStruct) where
+  -- the columns below k of the slopes, as the laws of columns have it
+  abbrev pub ColumnsTo : List Float → List Float → ℕ → Type 0
+  ColumnsTo s t k = Columns sc s t (at .slopes) (c .n) (c .rows) (at .x) (at .ahead) k
 
-pub started-part : (sc : Scene) (s t : List Float) (x n a b rows p m o k : ℕ) → o + k ≤ a → Started sc s t x n a b rows p m → part t o k ≡ part s o k
-started-part sc s t x n a b rows p m o k h g = part-same s t o k (g .size) (λ i l. g .below (o + i) (omega arith))
+  pub slopes-start : (s : List Float) → ColumnsTo s s (given sc 0)
+  unfolding unknownsIn
+  slopes-start s = columns-start sc s (at .slopes) (c .n) (c .rows) (at .x) (at .ahead)
 
--- the unknowns and their copy are the same, body after body
-pub copy-still : (sc : Scene) (s s1 t : List Float) (j n rows x y a b p m c : ℕ) → j + rows * n ≤ x → x + n ≤ y → y + n ≤ a → Started sc s s1 x n a b rows p m
-    → Columns sc s1 t j n rows x a c → part s y n ≡ part s x n → part t y n ≡ part t x n
-copy-still sc s s1 t j n rows x y a b p m c h l k st g e =
-    columns-part sc s1 t j n rows x a c y (omega arith) (omega arith) g ∙ started-part sc s s1 x n a b rows p m y n (omega arith) st ∙ e
-    ∙ sym (columns-part sc s1 t j n rows x a c x (omega arith) (omega arith) g ∙ started-part sc s s1 x n a b rows p m x n (omega arith) st)
+  module _ (size : ℕ) (apart : Apart c at size) where
+    pub columns-still : (s t : List Float) (k : ℕ) → ColumnsTo s t k → unknownsAt c at t ≡ unknownsAt c at s
+    columns-still s t k g = columns-part sc s t (at .slopes) (c .n) (c .rows) (at .x) (at .ahead) k (apart .x) g
 
-pub slopes-from : (sc : Scene) (s s1 t : List Float) (j n rows x a b p m c : ℕ) → j ≤ a → x + n ≤ a → Started sc s s1 x n a b rows p m → Columns sc s1 t j n rows x a c → Columns sc s t j n rows x a c
-slopes-from sc s s1 t j n rows x a b p m c h l st g =
-    record {
-      size = g .size ∙ st .size;
-      entries = λ i d k w. g .entries i d k w ∙ ap (λ (q : List Float). slope (rowsOf sc) q i d) (started-part sc s s1 x n a b rows p m x n l st);
-      below = λ q k. g .below q k ∙ st .below q (omega arith);
-      between = λ q k w. g .between q k w ∙ st .below q w;
-    }
+    pub started-still : (s t : List Float) → Started sc c at s t → unknownsAt c at t ≡ unknownsAt c at s
+    started-still s t g = part-same s t (at .x) (c .n) (g .size) (λ i l. g .below (at .x + i) (omega arith))
 
-pub slopes-step : (sc : Scene) (s t u : List Float) (j n rows x a lo hi : ℕ) → part t x n ≡ part s x n → ColumnsFrom sc t u j n rows x a lo hi → Columns sc s t j n rows x a lo → Columns sc s u j n rows x a hi
-slopes-step sc s t u j n rows x a lo hi e y g =
-    record {
-      size = y .size ∙ g .size;
-      entries = entries;
-      below = λ q l. y .below q l ∙ g .below q l;
-      between = λ q l k. y .between q l k ∙ g .between q l k;
-    }
-  where
-    entries : (i d : ℕ) → i < rows → d < hi → getD u (j + (i * n + d)) nan ≡ slope (rowsOf sc) (part s x n) i d
-    entries i d h l = go (decLt d lo)
-      where
-        go : Dec (d < lo) → getD u (j + (i * n + d)) nan ≡ slope (rowsOf sc) (part s x n) i d
-        go (yes k) = y .others i d h k ∙ g .entries i d h k
-        go (no k) = y .entries i d h (omega arith) l ∙ ap (λ (q : List Float). slope (rowsOf sc) q i d) e
+    -- from the scratch at entry: what is below the copy is as it was there
+    pub slopes-from : (s s1 t : List Float) (k : ℕ) → Started sc c at s s1 → ColumnsTo s1 t k → Columns sc s t (at .slopes) (c .n) (c .rows) (at .x) (at .next) k
+    slopes-from s s1 t k st g =
+        record {
+          size = g .size ∙ st .size;
+          entries = λ i d h w. g .entries i d h w ∙ ap (λ (q : List Float). slope (rowsOf sc) q i d) (started-still s s1 st);
+          below = λ q h. g .below q h ∙ st .below q (omega arith);
+          between = λ q h w. g .between q h (omega arith) ∙ st .below q w;
+        }
 
-pub standing-as : (sc : Scene) (s : List Float) (a b rows p m : ℕ) (xs ys : List Float) → ys ≡ xs → Standing sc s a b rows p m xs → Standing sc s a b rows p m ys
-standing-as sc s a b rows p m xs ys e g = subst (Standing sc s a b rows p m) (sym e) g
+  pub slopes-step : (s t u : List Float) (lo hi : ℕ) → unknownsAt c at t ≡ unknownsAt c at s → ColumnsFrom sc c at t u lo hi → ColumnsTo s t lo → ColumnsTo s u hi
+  slopes-step s t u lo hi e y g =
+      record {
+        size = y .size ∙ g .size;
+        entries = entries;
+        below = λ q l. y .below q l ∙ g .below q l;
+        between = λ q l k. y .between q l k ∙ g .between q l k;
+      }
+    where
+      entries : (i d : ℕ) → i < c .rows → d < hi → getD u (at .slopes + (i * c .n + d)) nan ≡ slope (rowsOf sc) (unknownsAt c at s) i d
+      entries i d h l = go (decLt d lo)
+        where
+          go : Dec (d < lo) → getD u (at .slopes + (i * c .n + d)) nan ≡ slope (rowsOf sc) (unknownsAt c at s) i d
+          go (yes k) = y .others i d h k ∙ g .entries i d h k
+          go (no k) = y .entries i d h (omega arith) l ∙ ap (λ (q : List Float). slope (rowsOf sc) q i d) e
 
 -- ---- what single functions need
+
+pub apart-same : {c : SceneStruct} {at : PartsStruct} {a b : ℕ} → b ≡ a → Apart c at a → Apart c at b
+apart-same {c} {at} e h = subst (Apart c at) (sym e) h
 
 pub count-is : (sheet : List ℕ) (c : SceneStruct) (poses : List (Pose Float)) (j q : ℕ)
     → q ≡ rowCount (relAt sheet (c .rels + 264 * j) .law) (relAt sheet (c .rels + 264 * j) .a .prim) (relAt sheet (c .rels + 264 * j) .b .prim) → q ≡ length (relRows sheet c poses j)
 count-is sheet c poses j q e = e ∙ sym (residual-length _ _ _ _ _ _)
-
-pub near-column-is : (sc : Scene) (s s2 s4 t : List Float) (j n rows x y a b p m i c : ℕ) (v h : Float) → c < n → j + rows * n ≤ x → x + n ≤ y → y + n ≤ a → a + rows ≤ b → b + rows ≤ p
-    → p ≤ length s
-    → Among sc i c → part s y n ≡ part s x n → v ≡ getD s (x + c) nan → h ≡ stepOf v → NearRows sc (set s (y + c) (add binary64 v h)) s2 y n a rows p m
-    → NearRows sc (set s2 (y + c) (sub binary64 v h)) s4 y n b rows p m
-    → Column (set s4 (y + c) v) t j n rows c (λ k. slopeOf (getD (set s4 (y + c) v) (a + k) nan) (getD (set s4 (y + c) v) (b + k) nan) h)
-    → NearColumn sc s t j n rows x a b p m i c
-near-column-is sc s s2 s4 t j n rows x y a b p m i c v h c-in j-x x-y y-a a-b b-p p-s among same v-is h-is up down col =
-    let j-a : j + rows * n ≤ a = omega arith in
-    record {
-      column = slope-column-is sc s s2 s4 t j n rows x y a b p c v h c-in j-x x-y y-a a-b b-p p-s same v-is h-is (up .rows-at) (down .rows-at) col;
-      ahead = ahead-near sc s n rows x y a b p m i c c-in y-a a-b b-p among same s2 (add binary64 v h) up s4 t (sub binary64 v h) v j _ j-a down col;
-      behind = behind-near sc s n rows x y a b p m i c c-in y-a a-b b-p among same s2 (add binary64 v h) up s4 t (sub binary64 v h) v j _ j-a down col;
-    }

@@ -87,7 +87,7 @@ part-same s t o k e h = ext-getD nan (part t o k) (part s o k) (simp (length-tak
         part-at t o k i nan m ∙ h i m ∙ sym (part-at s o k i nan m)
 
 module _ (sc : Scene) (s s2 s4 t : List Float) (j n rows x y a b p c : ℕ) (v h : Float)
-    (c-in : c < n) (j-x : j + rows * n ≤ x) (x-y : x + n ≤ y) (y-a : y + n ≤ a) (a-b : a + rows ≤ b) (b-p : b + rows ≤ p) (p-s : p ≤ length s)
+    (c-in : c < n) (x-j : x + n ≤ j) (j-y : j + rows * n ≤ y) (y-a : y + n ≤ a) (a-b : a + rows ≤ b) (b-p : b + rows ≤ p) (p-s : p ≤ length s)
     (same : part s y n ≡ part s x n) (v-is : v ≡ getD s (x + c) nan) (h-is : h ≡ stepOf v)
     (up : RowsAt sc (set s (y + c) (add binary64 v h)) s2 y n a rows p)
     (down : RowsAt sc (set s2 (y + c) (sub binary64 v h)) s4 y n b rows p)
@@ -178,16 +178,16 @@ pub record Columns (sc : Scene) (s t : List Float) (j n rows x a c : ℕ) : Type
 pub columns-start : (sc : Scene) (s : List Float) (j n rows x a : ℕ) → Columns sc s s j n rows x a 0
 columns-start sc s j n rows x a = record { size = refl; entries = λ i d h l. absurd (not-suc-le-zero l); below = λ q h. refl; between = λ q h l. refl }
 
--- the unknowns, and their copy, are as they were
-pub columns-part : (sc : Scene) (s t : List Float) (j n rows x a c o : ℕ) → j + rows * n ≤ o → o + n ≤ a → Columns sc s t j n rows x a c → part t o n ≡ part s o n
-columns-part sc s t j n rows x a c o h l g = part-same s t o n (g .size) (λ i m. g .between (o + i) (omega arith) (omega arith))
+-- the unknowns are as they were
+pub columns-part : (sc : Scene) (s t : List Float) (j n rows x a c : ℕ) → x + n ≤ j → Columns sc s t j n rows x a c → part t x n ≡ part s x n
+columns-part sc s t j n rows x a c h g = part-same s t x n (g .size) (λ i m. g .below (x + i) (omega arith))
 
-pub columns-end : (sc : Scene) (s t : List Float) (j n rows x a c : ℕ) → c ≡ n → j + rows * n ≤ x → x + n ≤ length s → a ≤ length s → x + n ≤ a → Columns sc s t j n rows x a c
+pub columns-end : (sc : Scene) (s t : List Float) (j n rows x a c : ℕ) → c ≡ n → x + n ≤ j → j + rows * n ≤ a → a ≤ length s → Columns sc s t j n rows x a c
     → Slopes sc s t j n rows x a
 unfolding jacobian
-columns-end sc s t j n rows x a c e h l k m g =
+columns-end sc s t j n rows x a c e h l k g =
     let z = g .size in
-    let w = part-length s x n l in
+    let w = part-length s x n (omega arith) in
     record {
       size = g .size;
       holds =

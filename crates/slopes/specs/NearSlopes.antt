@@ -1,5 +1,5 @@
--- The slopes, where the relations that do not name a body keep their rows while its unknowns move. s is the scratch at entry and t at exit; the poses of the m bodies
--- stand from place p on, the rows ahead from a on, the rows behind from b on. Definitions only.
+-- The slopes, where the relations that do not name a body keep their rows while its unknowns move. s is the scratch at entry and t at exit; c has the scene's numbers, and
+-- `at` says where things stand. Definitions only.
 use Prim.Native.Nat.{ℕ, _+_, _*_, _≤_, _<_}
 use mathlib.Core.Path.{_≡_}
 use mathlib.Core.List.{List}
@@ -11,6 +11,22 @@ use Rattle.least_squares.specs.Lm.{slope}
 use Rattle.least_squares.specs.Memory.{part}
 use Rattle.scene.specs.Solve.{Scene, layout, unknownsIn, posesAt, allRows, rowsOf}
 use Rattle.scene.specs.Scene.{posesIn, RowsAt, SlopeColumn}
+use Rattle.scene.specs.declared.scene.Scene.{Scene as SceneStruct}
+use Rattle.slopes.specs.declared.near_slopes.SlopeParts.{SlopeParts as PartsStruct}
+
+-- each part stands behind the last
+pub record Apart (c : SceneStruct) (at : PartsStruct) (size : ℕ) : Type 0 where
+  -- the unknowns, and the slopes of the rows there
+  pub x : at .x + c .n ≤ at .slopes
+  pub slopes : at .slopes + c .rows * c .n ≤ at .next
+  -- a copy of the unknowns, in which one of them goes a step ahead and a step behind; the rows there
+  pub next : at .next + c .n ≤ at .ahead
+  pub ahead : at .ahead + c .rows ≤ at .behind
+  pub behind : at .behind + c .rows ≤ at .poses
+  pub poses : at .poses + 12 * c .m ≤ size
+
+abbrev pub unknownsAt : SceneStruct → PartsStruct → List Float → List Float
+unknownsAt c at s = part s (at .x) (c .n)
 
 -- a list is the rows at these poses, but for where body i stands
 pub record RowsBut (sc : Scene) (i : ℕ) (poses : List (Pose Float)) (l : List Float) : Type 0 where
@@ -18,58 +34,63 @@ pub record RowsBut (sc : Scene) (i : ℕ) (poses : List (Pose Float)) (l : List 
   pub holds : l ≡ allRows (set poses i pose) (sc .rels)
 
 -- the poses, and the rows from place r on, are those at the unknowns xs, but for where body i stands
-pub record Near (sc : Scene) (s : List Float) (p m i r rows : ℕ) (xs : List Float) : Type 0 where
-  pub poses : (w : Pose Float) → set (posesIn s p m) i w ≡ set (posesAt sc xs) i w
-  pub but : RowsBut sc i (posesAt sc xs) (part s r rows)
+pub record Near (sc : Scene) (c : SceneStruct) (at : PartsStruct) (s : List Float) (i r : ℕ) (xs : List Float) : Type 0 where
+  pub poses : (w : Pose Float) → set (posesIn s (at .poses) (c .m)) i w ≡ set (posesAt sc xs) i w
+  pub but : RowsBut sc i (posesAt sc xs) (part s r (c .rows))
 
--- the poses, and the rows from place r on, are those at the unknowns from y on; nothing else below p has changed
-pub record NearRows (sc : Scene) (s t : List Float) (y n r rows p m : ℕ) : Type 0 where
-  pub rows-at : RowsAt sc s t y n r rows p
-  pub poses : posesIn t p m ≡ posesAt sc (part s y n)
+-- the poses, and the rows from place r on, are those at the copy of the unknowns; nothing else below the poses has changed
+pub record NearRows (sc : Scene) (c : SceneStruct) (at : PartsStruct) (s t : List Float) (r : ℕ) : Type 0 where
+  pub rows-at : RowsAt sc s t (at .next) (c .n) r (c .rows) (at .poses)
+  pub poses : posesIn t (at .poses) (c .m) ≡ posesAt sc (part s (at .next) (c .n))
 
--- the unknown c is one of body i's six
-pub record Among (sc : Scene) (i c : ℕ) : Type 0 where
+-- the unknown k is one of body i's six
+pub record Among (sc : Scene) (i k : ℕ) : Type 0 where
   pub first : ℕ
   pub given : getD (layout sc) i none ≡ some first
-  pub low : first ≤ c
-  pub high : c < first + 6
+  pub low : first ≤ k
+  pub high : k < first + 6
 
--- column c of the slopes; the poses and both rows are those at the unknowns from x on, but for where body i stands
-pub record NearColumn (sc : Scene) (s t : List Float) (j n rows x a b p m i c : ℕ) : Type 0 where
-  pub column : SlopeColumn sc s t j n rows x a c
-  pub ahead : Near sc t p m i a rows (part s x n)
-  pub behind : Near sc t p m i b rows (part s x n)
+-- the copy, the poses and both rows are those at the unknowns xs
+pub record Standing (sc : Scene) (c : SceneStruct) (at : PartsStruct) (s xs : List Float) : Type 0 where
+  pub copy : part s (at .next) (c .n) ≡ xs
+  pub poses : posesIn s (at .poses) (c .m) ≡ posesAt sc xs
+  pub ahead : part s (at .ahead) (c .rows) ≡ rowsOf sc xs
+  pub behind : part s (at .behind) (c .rows) ≡ rowsOf sc xs
 
--- the columns from lo up to hi of the slopes; the columns below lo, and what is below a outside the slopes, have not changed
-pub record ColumnsFrom (sc : Scene) (s t : List Float) (j n rows x a lo hi : ℕ) : Type 0 where
+-- the same, but for where body i stands
+pub record StandingBut (sc : Scene) (c : SceneStruct) (at : PartsStruct) (s : List Float) (i : ℕ) (xs : List Float) : Type 0 where
+  pub copy : part s (at .next) (c .n) ≡ xs
+  pub ahead : Near sc c at s i (at .ahead) xs
+  pub behind : Near sc c at s i (at .behind) xs
+
+-- column k of the slopes; what stands is as at entry, but for where body i stands
+pub record NearColumn (sc : Scene) (c : SceneStruct) (at : PartsStruct) (s t : List Float) (i k : ℕ) : Type 0 where
+  pub column : SlopeColumn sc s t (at .slopes) (c .n) (c .rows) (at .x) (at .ahead) k
+  pub standing : StandingBut sc c at t i (unknownsAt c at s)
+
+-- the columns from lo up to hi of the slopes; the columns below lo, and what is below `ahead` outside the slopes, have not changed
+pub record ColumnsFrom (sc : Scene) (c : SceneStruct) (at : PartsStruct) (s t : List Float) (lo hi : ℕ) : Type 0 where
   pub size : length t ≡ length s
-  pub entries : (i d : ℕ) → i < rows → lo ≤ d → d < hi → getD t (j + (i * n + d)) nan ≡ slope (rowsOf sc) (part s x n) i d
-  pub others : (i d : ℕ) → i < rows → d < lo → getD t (j + (i * n + d)) nan ≡ getD s (j + (i * n + d)) nan
-  pub below : (q : ℕ) → q < j → getD t q nan ≡ getD s q nan
-  pub between : (q : ℕ) → j + rows * n ≤ q → q < a → getD t q nan ≡ getD s q nan
+  pub entries : (i d : ℕ) → i < c .rows → lo ≤ d → d < hi → getD t (at .slopes + (i * c .n + d)) nan ≡ slope (rowsOf sc) (unknownsAt c at s) i d
+  pub others : (i d : ℕ) → i < c .rows → d < lo → getD t (at .slopes + (i * c .n + d)) nan ≡ getD s (at .slopes + (i * c .n + d)) nan
+  pub below : (q : ℕ) → q < at .slopes → getD t q nan ≡ getD s q nan
+  pub between : (q : ℕ) → at .slopes + c .rows * c .n ≤ q → q < at .ahead → getD t q nan ≡ getD s q nan
 
 -- the six columns from k on, the rest as for one column
-pub record SixColumns (sc : Scene) (s t : List Float) (j n rows x a b p m i k : ℕ) : Type 0 where
-  pub columns : ColumnsFrom sc s t j n rows x a k (k + 6)
-  pub ahead : Near sc t p m i a rows (part s x n)
-  pub behind : Near sc t p m i b rows (part s x n)
+pub record SixColumns (sc : Scene) (c : SceneStruct) (at : PartsStruct) (s t : List Float) (i k : ℕ) : Type 0 where
+  pub columns : ColumnsFrom sc c at s t k (k + 6)
+  pub standing : StandingBut sc c at t i (unknownsAt c at s)
 
--- the poses and both rows are those at the unknowns xs
-pub record Standing (sc : Scene) (s : List Float) (a b rows p m : ℕ) (xs : List Float) : Type 0 where
-  pub poses : posesIn s p m ≡ posesAt sc xs
-  pub ahead : part s a rows ≡ rowsOf sc xs
-  pub behind : part s b rows ≡ rowsOf sc xs
+-- the columns from lo up to hi; what stands is as at entry
+pub record BodyColumns (sc : Scene) (c : SceneStruct) (at : PartsStruct) (s t : List Float) (lo hi : ℕ) : Type 0 where
+  pub columns : ColumnsFrom sc c at s t lo hi
+  pub standing : Standing sc c at t (unknownsAt c at s)
 
--- the poses and both rows are made; below a nothing has changed
-pub record Started (sc : Scene) (s t : List Float) (x n a b rows p m : ℕ) : Type 0 where
+-- the copy, the poses and both rows are made; below the copy nothing has changed
+pub record Started (sc : Scene) (c : SceneStruct) (at : PartsStruct) (s t : List Float) : Type 0 where
   pub size : length t ≡ length s
-  pub standing : Standing sc t a b rows p m (part s x n)
-  pub below : (q : ℕ) → q < a → getD t q nan ≡ getD s q nan
-
--- the columns from lo up to hi; the poses and both rows are those at the unknowns from x on
-pub record BodyColumns (sc : Scene) (s t : List Float) (j n rows x a b p m lo hi : ℕ) : Type 0 where
-  pub columns : ColumnsFrom sc s t j n rows x a lo hi
-  pub standing : Standing sc t a b rows p m (part s x n)
+  pub standing : Standing sc c at t (unknownsAt c at s)
+  pub below : (q : ℕ) → q < at .next → getD t q nan ≡ getD s q nan
 
 -- how many unknowns the bodies below i have
 abbrev pub given : Scene → ℕ → ℕ

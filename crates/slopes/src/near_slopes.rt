@@ -1,5 +1,5 @@
 // The slopes of the rows along each unknown, by differences: as an unknown of a body moves, only that body's pose and the relations that name the body are worked anew.
-// `specs/NearSlopes.antt` has what stands where.
+// `specs/NearSlopes.antt` has what stands where. What is left in the places from `next` on, the copy, the rows and the poses, is open: it is scratch.
 
 ghost use mathlib.Core.Path.{_≡_};
 ghost use mathlib.Core.Bool.{false};
@@ -23,6 +23,16 @@ use scene::scene::put_body;
 use scene::scene::put_rows;
 use scene::scene::rel_rows;
 use scene::scene::residuals;
+
+// Where things stand: the unknowns, the slopes, a copy of the unknowns in which one of them goes a step ahead and a step behind, the rows ahead and behind, the poses.
+pub struct SlopeParts {
+    pub x: usize,
+    pub slopes: usize,
+    pub next: usize,
+    pub ahead: usize,
+    pub behind: usize,
+    pub poses: usize,
+}
 
 // The rows of relation j, where it names body i, to the places from `at` on; else they stand there. The place behind them.
 fn refresh_one(
@@ -65,198 +75,106 @@ fn refresh(sheet: &[u8], scene: Scene, s: &mut [f64], p: usize, i: usize, r: usi
     }
 }
 
-// The rows at the unknowns from y on, to the places from r on, where poses and rows stand but for where body i does.
-fn near_rows(sheet: &[u8], scene: Scene, s: &mut [f64], y: usize, r: usize, p: usize, i: usize)
+// The rows at the copy of the unknowns, to the places from r on, where poses and rows stand but for where body i does.
+fn near_rows(sheet: &[u8], scene: Scene, s: &mut [f64], at: SlopeParts, r: usize, i: usize)
     requires { ⌜ Laid (now sheet) scene ⌝ }
+    requires { ⌜ spec.Apart scene at (length (now s)) ⌝ }
     requires { ⌜ i < scene .m ⌝ }
-    requires { ⌜ y + scene .n ≤ r ⌝ }
-    requires { ⌜ r + scene .rows ≤ p ⌝ }
-    requires { ⌜ p + 12 * scene .m ≤ length (now s) ⌝ }
-    requires { ⌜ spec.Near (sceneOf (now sheet) scene) (now s) p (scene .m) i r (scene .rows) (part (now s) y (scene .n)) ⌝ }
-    ensures { λ _. ⌜ spec.NearRows (sceneOf (now (sheet .entry)) scene) (now (s .entry)) (now (s .exit)) y (scene .n) r (scene .rows) p (scene .m) ⌝ }
+    requires { ⌜ (at .next + scene .n ≤ r) × (r + scene .rows ≤ at .poses) ⌝ }
+    requires { ⌜ spec.Near (sceneOf (now sheet) scene) scene at (now s) i r (part (now s) (at .next) (scene .n)) ⌝ }
+    ensures { λ _. ⌜ spec.NearRows (sceneOf (now (sheet .entry)) scene) scene at (now (s .entry)) (now (s .exit)) r ⌝ }
 {
-    put_body(sheet, scene, s, y, p + 12 * i, i);
+    let p = at.poses;
+    put_body(sheet, scene, s, at.next, p + 12 * i, i);
     refresh(sheet, scene, s, p, i, r);
 }
 
-// Column c of the slopes at the unknowns from x on, c an unknown of body i; y is a copy of the unknowns, in which the unknown c goes a step ahead and a step behind.
-fn near_column(
-    sheet: &[u8],
-    scene: Scene,
-    s: &mut [f64],
-    j: usize,
-    x: usize,
-    y: usize,
-    a: usize,
-    b: usize,
-    p: usize,
-    i: usize,
-    c: usize,
-)
+// Column k of the slopes, k an unknown of body i.
+fn near_column(sheet: &[u8], scene: Scene, s: &mut [f64], at: SlopeParts, i: usize, k: usize)
     requires { ⌜ Laid (now sheet) scene ⌝ }
-    requires { ⌜ i < scene .m ⌝ }
-    requires { ⌜ c < scene .n ⌝ }
-    requires { ⌜ spec.Among (sceneOf (now sheet) scene) i c ⌝ }
-    requires { ⌜ j + scene .rows * scene .n ≤ x ⌝ }
-    requires { ⌜ x + scene .n ≤ y ⌝ }
-    requires { ⌜ y + scene .n ≤ a ⌝ }
-    requires { ⌜ a + scene .rows ≤ b ⌝ }
-    requires { ⌜ b + scene .rows ≤ p ⌝ }
-    requires { ⌜ p + 12 * scene .m ≤ length (now s) ⌝ }
-    requires { ⌜ part (now s) y (scene .n) ≡ part (now s) x (scene .n) ⌝ }
-    requires { ⌜ spec.Near (sceneOf (now sheet) scene) (now s) p (scene .m) i a (scene .rows) (part (now s) x (scene .n)) ⌝ }
-    requires { ⌜ spec.Near (sceneOf (now sheet) scene) (now s) p (scene .m) i b (scene .rows) (part (now s) x (scene .n)) ⌝ }
-    ensures { λ _. ⌜ spec.NearColumn (sceneOf (now (sheet .entry)) scene) (now (s .entry)) (now (s .exit)) j (scene .n) (scene .rows) x a b p (scene .m) i c ⌝ }
+    requires { ⌜ spec.Apart scene at (length (now s)) ⌝ }
+    requires { ⌜ (i < scene .m) × (k < scene .n) ⌝ }
+    requires { ⌜ spec.Among (sceneOf (now sheet) scene) i k ⌝ }
+    requires { ⌜ spec.StandingBut (sceneOf (now sheet) scene) scene at (now s) i (spec.unknownsAt scene at (now s)) ⌝ }
+    ensures { λ _. ⌜ spec.NearColumn (sceneOf (now (sheet .entry)) scene) scene at (now (s .entry)) (now (s .exit)) i k ⌝ }
 {
-    let v = s[x + c];
+    let x = at.x;
+    let y = at.next;
+    let v = s[x + k];
     let h = step_of(v);
-    s[y + c] = v + h;
-    near_rows(sheet, scene, s, y, a, p, i);
-    s[y + c] = v - h;
-    near_rows(sheet, scene, s, y, b, p, i);
-    s[y + c] = v;
-    put_column(s, j, scene.n, scene.rows, c, a, b, h);
+    s[y + k] = v + h;
+    near_rows(sheet, scene, s, at, at.ahead, i);
+    s[y + k] = v - h;
+    near_rows(sheet, scene, s, at, at.behind, i);
+    s[y + k] = v;
+    put_column(s, at.slopes, scene.n, scene.rows, k, at.ahead, at.behind, h);
 }
 
 // The six columns of body i, whose first unknown is k.
-fn six_columns(
-    sheet: &[u8],
-    scene: Scene,
-    s: &mut [f64],
-    j: usize,
-    x: usize,
-    y: usize,
-    a: usize,
-    b: usize,
-    p: usize,
-    i: usize,
-    k: usize,
-)
+fn six_columns(sheet: &[u8], scene: Scene, s: &mut [f64], at: SlopeParts, i: usize, k: usize)
     requires { ⌜ Laid (now sheet) scene ⌝ }
-    requires { ⌜ i < scene .m ⌝ }
-    requires { ⌜ k + 6 ≤ scene .n ⌝ }
+    requires { ⌜ spec.Apart scene at (length (now s)) ⌝ }
+    requires { ⌜ (i < scene .m) × (k + 6 ≤ scene .n) ⌝ }
     requires { ⌜ getD (definitions.layout (sceneOf (now sheet) scene)) i none ≡ some k ⌝ }
-    requires { ⌜ j + scene .rows * scene .n ≤ x ⌝ }
-    requires { ⌜ x + scene .n ≤ y ⌝ }
-    requires { ⌜ y + scene .n ≤ a ⌝ }
-    requires { ⌜ a + scene .rows ≤ b ⌝ }
-    requires { ⌜ b + scene .rows ≤ p ⌝ }
-    requires { ⌜ p + 12 * scene .m ≤ length (now s) ⌝ }
-    requires { ⌜ part (now s) y (scene .n) ≡ part (now s) x (scene .n) ⌝ }
-    requires { ⌜ spec.Near (sceneOf (now sheet) scene) (now s) p (scene .m) i a (scene .rows) (part (now s) x (scene .n)) ⌝ }
-    requires { ⌜ spec.Near (sceneOf (now sheet) scene) (now s) p (scene .m) i b (scene .rows) (part (now s) x (scene .n)) ⌝ }
-    ensures { λ _. ⌜ spec.SixColumns (sceneOf (now (sheet .entry)) scene) (now (s .entry)) (now (s .exit)) j (scene .n) (scene .rows) x a b p (scene .m) i k ⌝ }
+    requires { ⌜ spec.StandingBut (sceneOf (now sheet) scene) scene at (now s) i (spec.unknownsAt scene at (now s)) ⌝ }
+    ensures { λ _. ⌜ spec.SixColumns (sceneOf (now (sheet .entry)) scene) scene at (now (s .entry)) (now (s .exit)) i k ⌝ }
 {
     for e in 0usize..6 {
-        near_column(sheet, scene, s, j, x, y, a, b, p, i, k + e);
+        near_column(sheet, scene, s, at, i, k + e);
     }
 }
 
 // The same, and body i put back.
-fn body_columns(
-    sheet: &[u8],
-    scene: Scene,
-    s: &mut [f64],
-    j: usize,
-    x: usize,
-    y: usize,
-    a: usize,
-    b: usize,
-    p: usize,
-    i: usize,
-    k: usize,
-)
+fn body_columns(sheet: &[u8], scene: Scene, s: &mut [f64], at: SlopeParts, i: usize, k: usize)
     requires { ⌜ Laid (now sheet) scene ⌝ }
-    requires { ⌜ i < scene .m ⌝ }
-    requires { ⌜ k + 6 ≤ scene .n ⌝ }
+    requires { ⌜ spec.Apart scene at (length (now s)) ⌝ }
+    requires { ⌜ (i < scene .m) × (k + 6 ≤ scene .n) ⌝ }
     requires { ⌜ getD (definitions.layout (sceneOf (now sheet) scene)) i none ≡ some k ⌝ }
-    requires { ⌜ j + scene .rows * scene .n ≤ x ⌝ }
-    requires { ⌜ x + scene .n ≤ y ⌝ }
-    requires { ⌜ y + scene .n ≤ a ⌝ }
-    requires { ⌜ a + scene .rows ≤ b ⌝ }
-    requires { ⌜ b + scene .rows ≤ p ⌝ }
-    requires { ⌜ p + 12 * scene .m ≤ length (now s) ⌝ }
-    requires { ⌜ part (now s) y (scene .n) ≡ part (now s) x (scene .n) ⌝ }
-    requires { ⌜ spec.Standing (sceneOf (now sheet) scene) (now s) a b (scene .rows) p (scene .m) (part (now s) x (scene .n)) ⌝ }
-    ensures { λ _. ⌜ spec.BodyColumns (sceneOf (now (sheet .entry)) scene) (now (s .entry)) (now (s .exit)) j (scene .n) (scene .rows) x a b p (scene .m) k (k + 6) ⌝ }
+    requires { ⌜ spec.Standing (sceneOf (now sheet) scene) scene at (now s) (spec.unknownsAt scene at (now s)) ⌝ }
+    ensures { λ _. ⌜ spec.BodyColumns (sceneOf (now (sheet .entry)) scene) scene at (now (s .entry)) (now (s .exit)) k (k + 6) ⌝ }
 {
-    six_columns(sheet, scene, s, j, x, y, a, b, p, i, k);
-    near_rows(sheet, scene, s, y, a, p, i);
-    near_rows(sheet, scene, s, y, b, p, i);
+    six_columns(sheet, scene, s, at, i, k);
+    near_rows(sheet, scene, s, at, at.ahead, i);
+    near_rows(sheet, scene, s, at, at.behind, i);
 }
 
 // The columns of body i, none where it has no unknowns.
-fn near_body(
-    sheet: &[u8],
-    scene: Scene,
-    s: &mut [f64],
-    j: usize,
-    x: usize,
-    y: usize,
-    a: usize,
-    b: usize,
-    p: usize,
-    i: usize,
-)
+fn near_body(sheet: &[u8], scene: Scene, s: &mut [f64], at: SlopeParts, i: usize)
     requires { ⌜ Laid (now sheet) scene ⌝ }
+    requires { ⌜ spec.Apart scene at (length (now s)) ⌝ }
     requires { ⌜ i < scene .m ⌝ }
-    requires { ⌜ j + scene .rows * scene .n ≤ x ⌝ }
-    requires { ⌜ x + scene .n ≤ y ⌝ }
-    requires { ⌜ y + scene .n ≤ a ⌝ }
-    requires { ⌜ a + scene .rows ≤ b ⌝ }
-    requires { ⌜ b + scene .rows ≤ p ⌝ }
-    requires { ⌜ p + 12 * scene .m ≤ length (now s) ⌝ }
-    requires { ⌜ part (now s) y (scene .n) ≡ part (now s) x (scene .n) ⌝ }
-    requires { ⌜ spec.Standing (sceneOf (now sheet) scene) (now s) a b (scene .rows) p (scene .m) (part (now s) x (scene .n)) ⌝ }
-    ensures { λ _. ⌜ spec.BodyColumns (sceneOf (now (sheet .entry)) scene) (now (s .entry)) (now (s .exit)) j (scene .n) (scene .rows) x a b p (scene .m) (spec.given (sceneOf (now (sheet .entry)) scene) i) (spec.given (sceneOf (now (sheet .entry)) scene) (i + 1)) ⌝ }
+    requires { ⌜ spec.Standing (sceneOf (now sheet) scene) scene at (now s) (spec.unknownsAt scene at (now s)) ⌝ }
+    ensures { λ _. ⌜ spec.BodyColumns (sceneOf (now (sheet .entry)) scene) scene at (now (s .entry)) (now (s .exit)) (spec.given (sceneOf (now (sheet .entry)) scene) i) (spec.given (sceneOf (now (sheet .entry)) scene) (i + 1)) ⌝ }
 {
     let first = scene.index[i];
     if first == 0xFFFF {
         return;
     }
     let k = first as usize;
-    body_columns(sheet, scene, s, j, x, y, a, b, p, i, k);
+    body_columns(sheet, scene, s, at, i, k);
 }
 
-// The poses and both rows at the unknowns from x on.
-fn start(sheet: &[u8], scene: Scene, s: &mut [f64], x: usize, a: usize, b: usize, p: usize)
+// The copy of the unknowns, the poses and both rows there.
+fn start(sheet: &[u8], scene: Scene, s: &mut [f64], at: SlopeParts)
     requires { ⌜ Laid (now sheet) scene ⌝ }
-    requires { ⌜ x + scene .n ≤ a ⌝ }
-    requires { ⌜ a + scene .rows ≤ b ⌝ }
-    requires { ⌜ b + scene .rows ≤ p ⌝ }
-    requires { ⌜ p + 12 * scene .m ≤ length (now s) ⌝ }
-    ensures { λ _. ⌜ spec.Started (sceneOf (now (sheet .entry)) scene) (now (s .entry)) (now (s .exit)) x (scene .n) a b (scene .rows) p (scene .m) ⌝ }
+    requires { ⌜ spec.Apart scene at (length (now s)) ⌝ }
+    ensures { λ _. ⌜ spec.Started (sceneOf (now (sheet .entry)) scene) scene at (now (s .entry)) (now (s .exit)) ⌝ }
 {
-    poses_at(sheet, scene, s, x, p);
-    residuals(sheet, scene, s, p, a);
-    copy(s, a, b, scene.rows);
+    copy(s, at.x, at.next, scene.n);
+    poses_at(sheet, scene, s, at.x, at.poses);
+    residuals(sheet, scene, s, at.poses, at.ahead);
+    copy(s, at.ahead, at.behind, scene.rows);
 }
 
-// The slopes of the rows at the unknowns from x on, to the places from j on: rows ahead at a, rows behind at b, poses at p; y is a copy of the unknowns.
-pub fn slopes(
-    sheet: &[u8],
-    scene: Scene,
-    s: &mut [f64],
-    j: usize,
-    x: usize,
-    y: usize,
-    a: usize,
-    b: usize,
-    p: usize,
-)
+// The slopes of the rows at the unknowns. Below the copy nothing else changes.
+pub fn slopes(sheet: &[u8], scene: Scene, s: &mut [f64], at: SlopeParts)
     requires { ⌜ Laid (now sheet) scene ⌝ }
-    requires { ⌜ j + scene .rows * scene .n ≤ x ⌝ }
-    requires { ⌜ x + scene .n ≤ y ⌝ }
-    requires { ⌜ y + scene .n ≤ a ⌝ }
-    requires { ⌜ a + scene .rows ≤ b ⌝ }
-    requires { ⌜ b + scene .rows ≤ p ⌝ }
-    requires { ⌜ p + 12 * scene .m ≤ length (now s) ⌝ }
-    requires { ⌜ part (now s) y (scene .n) ≡ part (now s) x (scene .n) ⌝ }
-    ensures { λ _. ⌜ Slopes (sceneOf (now (sheet .entry)) scene) (now (s .entry)) (now (s .exit)) j (scene .n) (scene .rows) x a ⌝ }
+    requires { ⌜ spec.Apart scene at (length (now s)) ⌝ }
+    ensures { λ _. ⌜ Slopes (sceneOf (now (sheet .entry)) scene) (now (s .entry)) (now (s .exit)) (at .slopes) (scene .n) (scene .rows) (at .x) (at .next) ⌝ }
 {
-    start(sheet, scene, s, x, a, b, p);
+    start(sheet, scene, s, at);
     let m = scene.m;
     for i in 0..m {
-        near_body(sheet, scene, s, j, x, y, a, b, p, i);
+        near_body(sheet, scene, s, at, i);
     }
 }

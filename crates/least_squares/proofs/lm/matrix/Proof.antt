@@ -16,6 +16,15 @@ Inv-loop s₀ n rows a w i₀ s i = (i ≤ rows) × Kept s₀ s a (a + rows * ro
 abbrev μ-loop : tie.MeasureT-loop
 μ-loop s₀ n rows a w i₀ s i = rows - i
 
+mul-a : tie.Need-mul-a Inv-loop μ-loop
+mul-a c = omega arith
+
+mul-w : tie.Need-mul-w Inv-loop μ-loop
+mul-w c = omega arith
+
+add-w : tie.Need-add-w Inv-loop μ-loop
+add-w c = omega arith
+
 loop-holds : tie.Need-loop-holds Inv-loop μ-loop
 loop-holds c = (omega arith, kept-refl _ _ _, λ p k h l. absurd (not-suc-le-zero h))
 
@@ -24,7 +33,7 @@ matrix-row-requires c κs =
     let st = c .before .before in
     let g = st .before .before .args in
     let z = st .loop .inv .1 .size in
-    (omega arith, (omega arith, (omega arith, (omega arith, (omega arith, λ k h. st .loop .inv .2 k (st .loop .i) h (omega arith) ∙ sym (same-normal (g .s .now) (st .loop .s) (g .n) (g .rows) (g .a) (g .w) k (st .loop .i) (omega arith) (omega arith) (st .loop .inv .1)))))))
+    (omega arith, (omega arith, (omega arith, (omega arith, (omega arith, λ k h. st .loop .inv .2 k (st .loop .i) h (omega arith) ∙ sym (same-normal (g .s .now) (st .loop .s) (g .n) (g .rows) (g .rows * g .n) (g .rows * g .n + g .rows * g .rows) k (st .loop .i) (omega arith) (omega arith) (st .loop .inv .1)))))))
 
 add-i : tie.Need-add-i Inv-loop μ-loop
 add-i c = omega arith
@@ -36,7 +45,7 @@ loop-again : tie.Need-loop-again Inv-loop μ-loop
 loop-again c =
     let st = c .before .before .before .before .before in
     let g = st .before .before .args in
-    let r = rows-step (g .s .now) (st .loop .s) (c .before .before .matrix-row .last .0) (st .loop .i) (g .n) (g .rows) (g .a) (g .w) (omega arith) (omega arith) (omega arith) (st .loop .inv .1) (st .loop .inv .2) (c .before .before .matrix-row .ensures) in
+    let r = rows-step (g .s .now) (st .loop .s) (c .before .before .matrix-row .last .0) (st .loop .i) (g .n) (g .rows) (g .rows * g .n) (g .rows * g .n + g .rows * g .rows) (omega arith) (omega arith) (omega arith) (st .loop .inv .1) (st .loop .inv .2) (c .before .before .matrix-row .ensures) in
     (omega arith, r .0, r .1)
 
 same-length : tie.Need-same-length Inv-loop μ-loop
@@ -48,7 +57,7 @@ returns c =
     let g = st .before .before .args in
     let e : st .loop .i ≡ g .rows = omega arith in
     let z = st .loop .inv .1 .size in
-    record { matrix = rows-all (g .s .now) (st .loop .s) (g .n) (g .rows) (g .a) (g .w) (omega arith) (rw e at (st .loop .inv .2)); kept = st .loop .inv .1 }
+    record { matrix = rows-all (g .s .now) (st .loop .s) (g .n) (g .rows) (g .rows * g .n) (g .rows * g .n + g .rows * g .rows) (omega arith) (rw e at (st .loop .inv .2)); kept = st .loop .inv .1 }
 
 pub matrix-spec : {M : Type 1} → statement M
 matrix-spec =
@@ -56,6 +65,9 @@ matrix-spec =
     (tie.spec
     Inv-loop
     μ-loop
+    mul-a
+    mul-w
+    add-w
     loop-holds
     matrix-row-requires
     add-i

@@ -14,10 +14,10 @@ use Rattle.least_squares.proofs.lm.step.Statement.{statement}
 use Rattle.least_squares.proofs.lm.step.Tie as tie
 
 abbrev Inv-loop : tie.InvT-loop
-Inv-loop s₀ n rows x w y z c₀ s c = (c ≤ n) × Kept s₀ s z (z + n) × ((j : ℕ) → j < c → getD s (z + j) nan ≡ steppedAt (part s₀ x n) (part s₀ 0 (rows * n)) (part s₀ w n) (part s₀ y rows) rows j)
+Inv-loop s₀ n rows x j₀ w y z c₀ s c = (c ≤ n) × Kept s₀ s z (z + n) × ((j : ℕ) → j < c → getD s (z + j) nan ≡ steppedAt (part s₀ x n) (part s₀ j₀ (rows * n)) (part s₀ w n) (part s₀ y rows) rows j)
 
 abbrev μ-loop : tie.MeasureT-loop
-μ-loop s₀ n rows x w y z c₀ s c = n - c
+μ-loop s₀ n rows x j₀ w y z c₀ s c = n - c
 
 loop-holds : tie.Need-loop-holds Inv-loop μ-loop
 loop-holds c = (omega arith, kept-refl _ _ _, λ j l. absurd (not-suc-le-zero l))
@@ -44,7 +44,7 @@ loop-again : tie.Need-loop-again Inv-loop μ-loop
 loop-again c =
     let st = c .before .before .before in
     let g = st .before .before .args in
-    let r = step-step (g .s .now) (st .loop .s) _ (g .n) (g .rows) (g .x) (g .w) (g .y) (g .z) (st .loop .c) (c .stepped-at .result) (omega arith) (omega arith) (omega arith) (omega arith) (omega arith) (omega arith) (st .loop .inv .1) (st .loop .inv .2) (c .stepped-at .ensures) refl in
+    let r = step-step (g .s .now) (st .loop .s) _ (g .n) (g .rows) (g .x) (g .j) (g .w) (g .y) (g .z) (st .loop .c) (c .stepped-at .result) (omega arith) (omega arith) (omega arith) (omega arith) (omega arith) (omega arith) (st .loop .inv .1) (st .loop .inv .2) (c .stepped-at .ensures) refl in
     (omega arith, r .0, r .1)
 
 same-length : tie.Need-same-length Inv-loop μ-loop
@@ -56,7 +56,7 @@ returns c =
     let g = st .before .before .args in
     let e : st .loop .c ≡ g .n = omega arith in
     let u = st .loop .inv .1 .size in
-    record { unknowns = step-all (g .s .now) (st .loop .s) (g .n) (g .rows) (g .x) (g .w) (g .y) (g .z) (omega arith) (omega arith) (rw e at (st .loop .inv .2)); kept = st .loop .inv .1 }
+    record { unknowns = step-all (g .s .now) (st .loop .s) (g .n) (g .rows) (g .x) (g .j) (g .w) (g .y) (g .z) (omega arith) (omega arith) (rw e at (st .loop .inv .2)); kept = st .loop .inv .1 }
 
 pub step-spec : {M : Type 1} → statement M
 step-spec =

@@ -11,10 +11,10 @@ use Rattle.least_squares.proofs.lm.stepped_at.Statement.{statement}
 use Rattle.least_squares.proofs.lm.stepped_at.Tie as tie
 
 abbrev Inv-loop : tie.InvT-loop
-Inv-loop s n rows x w y c t₀ i₀ t i = (i ≤ rows) × (t ≡ sumFrom zero64 (columnTerm s n y c) i)
+Inv-loop s n rows x j w y c t₀ i₀ t i = (i ≤ rows) × (t ≡ sumFrom zero64 (columnTerm s j n y c) i)
 
 abbrev μ-loop : tie.MeasureT-loop
-μ-loop s n rows x w y c t₀ i₀ t i = rows - i
+μ-loop s n rows x j w y c t₀ i₀ t i = rows - i
 
 loop-holds : tie.Need-loop-holds Inv-loop μ-loop
 unfolding sumFrom
@@ -26,14 +26,17 @@ mul-t c = omega (arith, in-rows (c .before .loop .i) (c .before .before .args .c
 add-t : tie.Need-add-t Inv-loop μ-loop
 add-t c = omega (arith, in-rows (c .before .loop .i) (c .before .before .args .c) (c .before .before .args .n) (c .before .before .args .rows) (omega arith) (omega arith))
 
+add-t-2 : tie.Need-add-t-2 Inv-loop μ-loop
+add-t-2 c = omega (arith, in-rows (c .before .loop .i) (c .before .before .args .c) (c .before .before .args .n) (c .before .before .args .rows) (omega arith) (omega arith))
+
 mul-t-2 : tie.Need-mul-t-2 Inv-loop μ-loop
 mul-t-2 c = omega (arith, in-rows (c .before .loop .i) (c .before .before .args .c) (c .before .before .args .n) (c .before .before .args .rows) (omega arith) (omega arith))
 
 shared-slice-read-t : tie.Need-shared-slice-read-t Inv-loop μ-loop
 shared-slice-read-t c = omega (arith, in-rows (c .before .before .loop .i) (c .before .before .before .args .c) (c .before .before .before .args .n) (c .before .before .before .args .rows) (omega arith) (omega arith))
 
-add-t-2 : tie.Need-add-t-2 Inv-loop μ-loop
-add-t-2 c = omega arith
+add-t-3 : tie.Need-add-t-3 Inv-loop μ-loop
+add-t-3 c = omega arith
 
 mul-t-3 : tie.Need-mul-t-3 Inv-loop μ-loop
 mul-t-3 c = omega arith
@@ -74,7 +77,7 @@ returns c =
     let st = c .before .before .before in
     let g = st .before .args in
     let e : st .loop .i ≡ g .rows = omega arith in
-    rw (st .loop .inv .1, e) (stepped-is (g .s .now) (g .n) (g .rows) (g .x) (g .w) (g .y) (g .c) (omega arith) (omega arith))
+    rw (st .loop .inv .1, e) (stepped-is (g .s .now) (g .n) (g .rows) (g .x) (g .j) (g .w) (g .y) (g .c) (omega arith) (omega arith))
 
 pub stepped-at-spec : {M : Type 1} → statement M
 stepped-at-spec =
@@ -85,9 +88,10 @@ stepped-at-spec =
     loop-holds
     mul-t
     add-t
+    add-t-2
     mul-t-2
     shared-slice-read-t
-    add-t-2
+    add-t-3
     mul-t-3
     shared-slice-read-t-2
     add-i

@@ -2,9 +2,18 @@
 use native.Mathlib.Omega.{arith}
 use borrow.Author.Needs.{needs}
 use Rattle.relations.specs.Model.{bodyNumber}
+use lib.ListN.{length}
+use Rattle.rounds.specs.Places.{Arranged}
+use Rattle.rounds.proofs.RoundLaws.{arranged-as}
 use Rattle.placement.proofs.SolveLaws.{filled-is}
 use Rattle.placement.proofs.solve.solve.Statement.{statement}
 use Rattle.placement.proofs.solve.solve.Tie as tie
+
+-- where the parts of the scratch stand
+placed : (c : tie.After-arrange) → let g = c .before .before .before .before .before .before .args in Arranged (g .scene) (c .arrange .result) (length (g .s .now))
+placed c =
+    let o = c .before .before .before .before .before .before in
+    arranged-as (o .args .scene) (c .arrange .result) (length (o .args .s .now)) (c .arrange .ensures) (o .pre .1 .1 .0)
 
 arrange-requires : tie.Need-arrange-requires
 arrange-requires c κs = search needs
@@ -12,12 +21,12 @@ arrange-requires c κs = search needs
 solved-requires : tie.Need-solved-requires
 solved-requires c κs =
     let f = c .before .before .before .before .before .before .before .pre in
-    (f .0, (c .before .arrange .ensures _ (f .1 .1 .0), f .1 .0 .1))
+    (f .0, (placed (c .before), f .1 .0 .1))
 
 poses-at-requires : tie.Need-poses-at-requires
 poses-at-requires c κs =
     let f = c .before .before .before .before .before .before .before .before .before .before .before .pre in
-    let a = c .before .before .before .before .before .arrange .ensures _ (f .1 .1 .0) in
+    let a = placed (c .before .before .before .before .before) in
     let z = c .before .before .before .solved .ensures .size in
     (f .0, (omega arith, omega arith))
 
@@ -27,7 +36,7 @@ mul-copy-out c = search needs
 copy-out-requires : tie.Need-copy-out-requires
 copy-out-requires c κs =
     let f = c .before .before .before .before .before .before .before .before .before .before .before .before .before .before .before .before .before .pre in
-    let a = c .before .before .before .before .before .before .before .before .before .before .before .arrange .ensures _ (f .1 .1 .0) in
+    let a = placed (c .before .before .before .before .before .before .before .before .before .before .before) in
     let z = c .before .before .before .before .before .before .before .before .before .solved .ensures .size in
     let y = c .before .before .before .before .before .poses-at .ensures .kept .size in
     (omega (arith, a .poses, z, y), f .1 .1 .1 .0)
@@ -35,7 +44,7 @@ copy-out-requires c κs =
 put-frames-requires : tie.Need-put-frames-requires
 put-frames-requires c κs =
     let f = c .before .before .before .before .before .before .before .before .before .before .before .before .before .before .before .before .before .before .before .before .before .before .pre in
-    let a = c .before .before .before .before .before .before .before .before .before .before .before .before .before .before .before .before .arrange .ensures _ (f .1 .1 .0) in
+    let a = placed (c .before .before .before .before .before .before .before .before .before .before .before .before .before .before .before .before) in
     let z = c .before .before .before .before .before .before .before .before .before .before .before .before .before .before .solved .ensures .size in
     let y = c .before .before .before .before .before .before .before .before .before .before .poses-at .ensures .kept .size in
     (f .0, (omega (arith, a .poses, z, y), f .1 .1 .1 .1 .0))
@@ -43,7 +52,7 @@ put-frames-requires c κs =
 put-errors-requires : tie.Need-put-errors-requires
 put-errors-requires c κs =
     let f = c .before .before .before .before .before .before .before .before .before .before .before .before .before .before .before .before .before .before .before .before .before .before .before .before .before .before .before .pre in
-    let a = c .before .before .before .before .before .before .before .before .before .before .before .before .before .before .before .before .before .before .before .before .before .arrange .ensures _ (f .1 .1 .0) in
+    let a = placed (c .before .before .before .before .before .before .before .before .before .before .before .before .before .before .before .before .before .before .before .before .before) in
     let z = c .before .before .before .before .before .before .before .before .before .before .before .before .before .before .before .before .before .before .before .solved .ensures .size in
     let y = c .before .before .before .before .before .before .before .before .before .before .before .before .before .before .before .poses-at .ensures .kept .size in
     (f .0, (omega (arith, a .poses, z, y), f .1 .1 .1 .1 .1))

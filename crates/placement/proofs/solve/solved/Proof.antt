@@ -21,7 +21,7 @@ run-requires c κs =
 -- the first run
 begun : (c : tie.After-run)
     → let g = c .before .before .before .before .before .before .before .before .before .before .before .before .args in
-    Begun (sceneOf (g .sheet .now) (g .scene)) (g .scene) (g .p) (bodyNumber (g .drag)) (g .s .now) (c .run .last .1 .1 .0) (c .run .result)
+    Begun (sceneOf (g .sheet .now) (g .scene)) (g .scene) (g .p) (bodyNumber (g .drag)) (g .s .now) (c .run .last .1 .1 .0) (c .run .result .converged)
 begun c =
     let g = c .before .before .before .before .before .before .before .before .before .before .before .before .args in
     begun-is (sceneOf (g .sheet .now) (g .scene)) (g .scene) (g .p) (bodyNumber (g .drag)) (g .s .now) _ _ _ _ (c .before .before .before .before .before .before .before .before .before .before .before .before .pre .0 .unknown-count) (c .before .before .before .before .before .before .before .before .before .before .before .before .pre .1 .0) (c .before .before .before .before .before .before .before .before .inverse-weights .ensures) (c .before .before .before .before .put-start .ensures) (c .run .ensures)

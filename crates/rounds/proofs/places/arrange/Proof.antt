@@ -1,8 +1,8 @@
 -- `rounds::places::arrange` meets its contract: the products of so many rows and unknowns are small, so no sum wraps. Assumes nothing.
+use mathlib.Core.Path.{refl}
 use Prim.Native.Nat.{_*_, _≤_}
 use native.Mathlib.Nat.{mul-le-mul}
 use native.Mathlib.Omega.{arith}
-use borrow.Author.Needs.{needs}
 use Rattle.scene.specs.declared.scene.Scene.{Scene as SceneStruct}
 use Rattle.rounds.proofs.places.arrange.Statement.{statement}
 use Rattle.rounds.proofs.places.arrange.Tie as tie
@@ -11,11 +11,20 @@ use Rattle.rounds.proofs.places.arrange.Tie as tie
 products : (c : SceneStruct) → c .rows ≤ 896 → c .n ≤ 384 → (c .rows * c .n ≤ 344064) × (c .rows * c .rows ≤ 802816)
 products c h l = (mul-le-mul h l, mul-le-mul h h)
 
+add-slopes : tie.Need-add-slopes
+add-slopes c = omega (arith, products (c .args .scene) (omega arith) (omega arith))
+
 mul-matrix : tie.Need-mul-matrix
 mul-matrix c = omega (arith, products (c .args .scene) (omega arith) (omega arith))
 
-mul-damped : tie.Need-mul-damped
-mul-damped c = omega (arith, products (c .args .scene) (omega arith) (omega arith))
+add-matrix : tie.Need-add-matrix
+add-matrix c = omega (arith, products (c .args .scene) (omega arith) (omega arith))
+
+mul-weights : tie.Need-mul-weights
+mul-weights c = omega (arith, products (c .args .scene) (omega arith) (omega arith))
+
+add-weights : tie.Need-add-weights
+add-weights c = omega (arith, products (c .args .scene) (omega arith) (omega arith))
 
 add-damped : tie.Need-add-damped
 add-damped c = omega (arith, products (c .args .scene) (omega arith) (omega arith))
@@ -25,15 +34,6 @@ mul-right c = omega (arith, products (c .args .scene) (omega arith) (omega arith
 
 add-right : tie.Need-add-right
 add-right c = omega (arith, products (c .args .scene) (omega arith) (omega arith))
-
-add-weights : tie.Need-add-weights
-add-weights c = omega (arith, products (c .args .scene) (omega arith) (omega arith))
-
-add-x : tie.Need-add-x
-add-x c = omega (arith, products (c .args .scene) (omega arith) (omega arith))
-
-add-first : tie.Need-add-first
-add-first c = omega (arith, products (c .args .scene) (omega arith) (omega arith))
 
 add-at : tie.Need-add-at
 add-at c = omega (arith, products (c .args .scene) (omega arith) (omega arith))
@@ -50,24 +50,40 @@ add-behind c = omega (arith, products (c .args .scene) (omega arith) (omega arit
 add-poses : tie.Need-add-poses
 add-poses c = omega (arith, products (c .args .scene) (omega arith) (omega arith))
 
+sub-t15 : tie.Need-sub-t15
+sub-t15 c = omega (arith, products (c .args .scene) (omega arith) (omega arith))
+
+sub-t16 : tie.Need-sub-t16
+sub-t16 c = omega (arith, products (c .args .scene) (omega arith) (omega arith))
+
+sub-t17 : tie.Need-sub-t17
+sub-t17 c = omega (arith, products (c .args .scene) (omega arith) (omega arith))
+
+sub-t18 : tie.Need-sub-t18
+sub-t18 c = omega (arith, products (c .args .scene) (omega arith) (omega arith))
+
 returns : tie.Need-returns
-returns c = search needs
+returns c = refl
 
 pub arrange-spec : {M : Type 1} → statement M
 arrange-spec =
     tie.close
     (tie.spec
+    add-slopes
     mul-matrix
-    mul-damped
+    add-matrix
+    mul-weights
+    add-weights
     add-damped
     mul-right
     add-right
-    add-weights
-    add-x
-    add-first
     add-at
     add-next
     add-ahead
     add-behind
     add-poses
+    sub-t15
+    sub-t16
+    sub-t17
+    sub-t18
     returns)

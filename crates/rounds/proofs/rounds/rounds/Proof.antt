@@ -29,6 +29,12 @@ within-requires c κs =
     let o = at .before .before .before in
     arranged-same (c .before .before .before .one-round .ensures .keeps .size ∙ at .loop .inv .1 .keeps .size) (o .pre .1 .0)
 
+add-t17 : tie.Need-add-t17 Inv-loop μ-loop
+add-t17 c = omega arith
+
+add-t18 : tie.Need-add-t18 Inv-loop μ-loop
+add-t18 c = omega arith
+
 same-length : tie.Need-same-length Inv-loop μ-loop
 same-length c = c .before .before .before .before .before .one-round .ensures .keeps .size ∙ c .before .before .before .before .before .before .before .before .loop .inv .1 .keeps .size
 
@@ -89,8 +95,10 @@ rounds-spec =
     loop-holds
     one-round-requires
     within-requires
+    add-t17
     same-length
     returns
+    add-t18
     same-length-2
     returns-2
     add-i

@@ -1,4 +1,4 @@
--- `slopes::near_slopes::near_body` meets its contract. Assumes nothing.
+-- `slopes::near_slopes::near_body` meets its contract: a body without unknowns has no columns, and the six of any other stand from its first unknown on. Assumes nothing.
 use mathlib.Core.Path.{refl}
 use native.Mathlib.Omega.{arith}
 use borrow.Author.Needs.{needs}
@@ -18,7 +18,7 @@ returns : tie.Need-returns
 returns c =
     let o = c .before .before .before .before in
     let g = o .args in
-    body-none (g .sheet .now) (g .t2) (g .s .now) (g .j) (g .x) (g .a) (g .b) (g .p) (g .i) (o .pre .0) (o .pre .1 .0) (c .if1 .taken) (o .pre .1 .1 .1 .1 .1 .1 .1 .1 .1)
+    body-none (g .sheet .now) (g .t2) (g .at) (g .s .now) (g .i) (o .pre .0) (o .pre .1 .1 .0) (c .if1 .taken) (o .pre .1 .1 .1)
 
 cast-k : tie.Need-cast-k
 cast-k c = search needs
@@ -27,17 +27,10 @@ body-columns-requires : tie.Need-body-columns-requires
 body-columns-requires c κs =
     let o = c .before .before .before .before .before in
     let g = o .args in
-    let h1 = o .pre .1 .0 in
-    let h2 = o .pre .1 .1 .0 in
-    let h3 = o .pre .1 .1 .1 .0 in
-    let h4 = o .pre .1 .1 .1 .1 .0 in
-    let h5 = o .pre .1 .1 .1 .1 .1 .0 in
-    let h6 = o .pre .1 .1 .1 .1 .1 .1 .0 in
-    let h7 = o .pre .1 .1 .1 .1 .1 .1 .1 .0 in
-    let n = c .before .if1 .left in (
-      o .pre .0,
-      (omega arith, (laid-first (g .sheet .now) (g .t2) (g .i) (getD (g .t2 .index) (g .i) 0) (o .pre .0) h1 refl n, (first-some (g .sheet .now) (g .t2) (g .i) (getD (g .t2 .index) (g .i) 0) (o .pre .0) h1 refl n, (omega arith, (omega arith, (omega arith, (omega arith, (omega arith, (omega arith, (o .pre .1 .1 .1 .1 .1 .1 .1 .1 .0, o .pre .1 .1 .1 .1 .1 .1 .1 .1 .1)))))))))),
-    )
+    let h = o .pre .1 .1 .0 in
+    let first = getD (g .t2 .index) (g .i) 0 in
+    let n = c .before .if1 .left in
+    (o .pre .0, (o .pre .1 .0, ((h, laid-first (g .sheet .now) (g .t2) (g .i) first (o .pre .0) h refl n), (first-some (g .sheet .now) (g .t2) (g .i) first (o .pre .0) h refl n, o .pre .1 .1 .1))))
 
 same-length : tie.Need-same-length
 same-length c = c .before .before .body-columns .ensures .columns .size
@@ -47,7 +40,8 @@ returns-2 c =
     let o = c .before .before .before .before .before .before .before .before in
     let g = o .args in
     let n = c .before .before .before .before .if1 .left in
-    body-some (g .sheet .now) (g .t2) (g .s .now) _ (g .j) (g .x) (g .a) (g .b) (g .p) (g .i) (getD (g .t2 .index) (g .i) 0) (first-some (g .sheet .now) (g .t2) (g .i) (getD (g .t2 .index) (g .i) 0) (o .pre .0) (o .pre .1 .0) refl n) (c .before .before .body-columns .ensures)
+    let first = getD (g .t2 .index) (g .i) 0 in
+    body-some (g .sheet .now) (g .t2) (g .at) (g .s .now) _ (g .i) first (first-some (g .sheet .now) (g .t2) (g .i) first (o .pre .0) (o .pre .1 .1 .0) refl n) (c .before .before .body-columns .ensures)
 
 pub near-body-spec : {M : Type 1} → statement M
 near-body-spec = tie.close (tie.spec mul-first element-copy-out-first returns cast-k body-columns-requires same-length returns-2)

@@ -1,4 +1,5 @@
--- `slopes::near_slopes::near_rows` meets its contract. Assumes nothing.
+-- `slopes::near_slopes::near_rows` meets its contract: body i's pose is put anew, and with it all poses are those at the copy; the rows that name the body are worked
+-- anew, and with them all rows are. Assumes nothing.
 use mathlib.Core.Path.{_∙_}
 use native.Mathlib.Omega.{arith}
 use Rattle.slopes.proofs.NearLaws.{near-but, near-rows-is}
@@ -12,15 +13,20 @@ add-put-body : tie.Need-add-put-body
 add-put-body c = omega arith
 
 put-body-requires : tie.Need-put-body-requires
-put-body-requires c κs = (c .before .before .before .pre .0, (omega arith, (omega arith, omega arith)))
+put-body-requires c κs =
+    let o = c .before .before .before in
+    let a = o .pre .1 .0 in
+    (o .pre .0, (omega arith, (omega arith, omega arith)))
 
 refresh-requires : tie.Need-refresh-requires
 refresh-requires c κs =
-    let g = c .before .before .before .before .before .before .before .args in
+    let o = c .before .before .before .before .before .before .before in
+    let g = o .args in
+    let a = o .pre .1 .0 in
     let y = c .before .before .before .put-body .ensures in
     let z = y .kept .size in (
-      c .before .before .before .before .before .before .before .pre .0,
-      (omega arith, (omega arith, near-but (g .sheet .now) (g .scene) (g .s .now) _ (g .y) (g .r) (g .p) (g .i) (c .before .before .before .before .before .before .before .pre .0) (c .before .before .before .before .before .before .before .pre .1 .0) (c .before .before .before .before .before .before .before .pre .1 .1 .1 .0) (c .before .before .before .before .before .before .before .pre .1 .1 .1 .1 .1) y)),
+      o .pre .0,
+      (omega arith, (omega arith, near-but (g .sheet .now) (g .scene) (g .at) (g .s .now) _ (g .r) (g .i) (o .pre .0) (o .pre .1 .1 .0) (o .pre .1 .1 .1 .0 .1) (o .pre .1 .1 .1 .1) y)),
     )
 
 same-length : tie.Need-same-length
@@ -28,8 +34,9 @@ same-length c = c .before .before .refresh .ensures .kept .size ∙ c .before .b
 
 returns : tie.Need-returns
 returns c =
-    let g = c .before .before .before .before .before .before .before .before .before .before .args in
-    near-rows-is (g .sheet .now) (g .scene) (g .s .now) _ (g .y) (g .r) (g .p) (g .i) (c .before .before .before .before .before .before .before .before .before .before .pre .0) (c .before .before .before .before .before .before .before .before .before .before .pre .1 .0) (c .before .before .before .before .before .before .before .before .before .before .pre .1 .1 .1 .0) (c .before .before .before .before .before .before .before .before .before .before .pre .1 .1 .1 .1 .1) (c .before .before .before .before .before .before .put-body .ensures) _ (c .before .before .refresh .ensures)
+    let o = c .before .before .before .before .before .before .before .before .before .before in
+    let g = o .args in
+    near-rows-is (g .sheet .now) (g .scene) (g .at) (g .s .now) _ (g .r) (g .i) (o .pre .0) (o .pre .1 .1 .0) (o .pre .1 .1 .1 .0 .1) (o .pre .1 .1 .1 .1) (c .before .before .before .before .before .before .put-body .ensures) _ (c .before .before .refresh .ensures)
 
 pub near-rows-spec : {M : Type 1} → statement M
 near-rows-spec = tie.close (tie.spec mul-put-body add-put-body put-body-requires refresh-requires same-length returns)

@@ -1,30 +1,49 @@
--- `slopes::near_slopes::start` meets its contract. Assumes nothing.
+-- `slopes::near_slopes::start` meets its contract: each of its four calls writes behind all that the next one reads and the last ones wrote. Assumes nothing.
 use mathlib.Core.Path.{_∙_}
 use native.Mathlib.Omega.{arith}
 use Rattle.slopes.proofs.NearLaws.{started-is}
 use Rattle.slopes.proofs.near_slopes.start.Statement.{statement}
 use Rattle.slopes.proofs.near_slopes.start.Tie as tie
 
+copy-requires : tie.Need-copy-requires
+copy-requires c κs = let a = c .before .before .before .pre .1 in (omega arith, omega arith)
+
 poses-at-requires : tie.Need-poses-at-requires
-poses-at-requires c κs = (c .before .before .before .pre .0, (omega arith, omega arith))
+poses-at-requires c κs =
+    let o = c .before .before .before .before .before .before .before in
+    let a = o .pre .1 in
+    let z = c .before .before .before .copy .ensures .kept .size in
+    (o .pre .0, (omega arith, omega arith))
 
 residuals-requires : tie.Need-residuals-requires
-residuals-requires c κs = let z = c .before .before .before .poses-at .ensures .kept .size in (c .before .before .before .before .before .before .before .pre .0, (omega arith, omega arith))
+residuals-requires c κs =
+    let o = c .before .before .before .before .before .before .before .before .before .before .before in
+    let a = o .pre .1 in
+    let z = c .before .before .before .poses-at .ensures .kept .size in
+    let w = c .before .before .before .before .before .before .before .copy .ensures .kept .size in
+    (o .pre .0, (omega arith, omega arith))
 
-copy-requires : tie.Need-copy-requires
-copy-requires c κs =
-    let z = c .before .before .before .before .before .before .before .poses-at .ensures .kept .size in
-    let w = c .before .before .before .residuals .ensures .kept .size in
+copy-requires-2 : tie.Need-copy-requires-2
+copy-requires-2 c κs =
+    let o = c .before .before .before .before .before .before .before .before .before .before .before .before .before .before .before in
+    let a = o .pre .1 in
+    let z = c .before .before .before .residuals .ensures .kept .size in
+    let w = c .before .before .before .before .before .before .before .poses-at .ensures .kept .size in
+    let v = c .before .before .before .before .before .before .before .before .before .before .before .copy .ensures .kept .size in
     (omega arith, omega arith)
 
 same-length : tie.Need-same-length
-same-length c = c .before .before .copy .ensures .kept .size ∙ c .before .before .before .before .before .before .residuals .ensures .kept .size ∙ c .before .before .before .before .before .before .before .before .before .before .poses-at .ensures .kept .size
+same-length c = c .before .before .copy2 .ensures .kept .size ∙ c .before .before .before .before .before .before .residuals .ensures .kept .size ∙ c .before .before .before .before .before .before .before .before .before .before .poses-at .ensures .kept .size ∙ c .before .before .before .before .before .before .before .before .before .before .before .before .before .before .copy .ensures .kept .size
 
 returns : tie.Need-returns
 returns c =
-    let o = c .before .before .before .before .before .before .before .before .before .before .before .before .before .before in
+    let behind = c .before .before in
+    let rows = behind .before .before .before .before in
+    let poses = rows .before .before .before .before in
+    let next = poses .before .before .before .before in
+    let o = next .before .before .before .before in
     let g = o .args in
-    started-is (g .sheet .now) (g .scene) (g .s .now) _ _ _ (g .x) (g .a) (g .b) (g .p) (o .pre .1 .1 .0) (o .pre .1 .1 .1 .0) (c .before .before .before .before .before .before .before .before .before .before .poses-at .ensures) (c .before .before .before .before .before .before .residuals .ensures) (c .before .before .copy .ensures)
+    started-is (g .sheet .now) (g .scene) (g .at) (g .s .now) _ _ _ _ (o .pre .1) (next .copy .ensures) (poses .poses-at .ensures) (rows .residuals .ensures) (behind .copy2 .ensures)
 
 pub start-spec : {M : Type 1} → statement M
-start-spec = tie.close (tie.spec poses-at-requires residuals-requires copy-requires same-length returns)
+start-spec = tie.close (tie.spec copy-requires poses-at-requires residuals-requires copy-requires-2 same-length returns)
