@@ -1,16 +1,17 @@
 -- How far each polynomial, worked on doubles, lies from the same polynomial worked exactly, on fractions: same coefficients, same argument. At most 2 ^ -52, at every argument that
--- sine, cosine and arctangent put into it (Range.antt). The law for any length is `horner-const` of numbers; what the kernel computes here is its bound for the three lists. Assumes nothing.
+-- sine, cosine and arctangent put into it: for t without the sign bit by Range.antt, and for t = -0, which is not below 0, by evaluation. The law for any length is `horner-const` of numbers; what the kernel computes here is its bound for the three lists. Assumes nothing.
 use Prim.Native.Nat.{ℕ, _*_, _^_, _≤_}
 use mathlib.Core.Path.{_≡_, refl}
 use mathlib.Core.Bool.{Bool, true, false, _&&_}
 use mathlib.Core.List.{List, map}
 use lib.Dec.{T, leb, leb→le}
 use lib.IntN.{ℤ, negsuc}
-use lib.Ieee.{Float, nan, inf, fin, binary64, rem, mul, lt, le, up, down, ofBits}
+use native.Mathlib.Omega.{arith}
+use lib.Ieee.{Float, nan, inf, fin, binary64, rem, ofInt, sub, mul, neg, lt, le, up, down, ofBits}
 use lib.Ieee.Fits.{and-l, and-r, down-pos}
 use lib.Ieee.Order.{le-of-values}
 use Rattle.numbers.specs.Frac.{fracOf}
-use Rattle.numbers.specs.Double.{abs, isFinite, negative}
+use Rattle.numbers.specs.Double.{zero64, abs, isFinite, negative}
 use Rattle.numbers.specs.Ops.{doubles, fractions}
 use Rattle.numbers.specs.Horner.{horner}
 use Rattle.numbers.specs.HornerNear.{horner-const}
@@ -56,6 +57,19 @@ sine-near t f s = figure sineCoefs 5 (negsuc 2) (5 * 2 ^ 77) tt tt (squareOf t) 
 pub cosine-near : (t : Float) → isFinite t ≡ true → negative t ≡ false → Within-52 cosineCoefs (squareOf t)
 unfolding within52 S ofBits
 cosine-near t f s = figure cosineCoefs 5 (negsuc 2) (5 * 2 ^ 77) tt tt (squareOf t) (turn-square t f s)
+
+-- t = -0
+pub minus-zero-square : squareOf (neg zero64) ≡ zero64
+unfolding ofBits fromTurn mul sub rem ofInt lt
+minus-zero-square = refl
+
+pub sine-near-minus-zero : Within-52 sineCoefs (squareOf (neg zero64))
+unfolding within52 S ofBits
+sine-near-minus-zero = figure sineCoefs 5 (negsuc 2) (5 * 2 ^ 77) tt tt (squareOf (neg zero64)) (rw minus-zero-square (omega arith))
+
+pub cosine-near-minus-zero : Within-52 cosineCoefs (squareOf (neg zero64))
+unfolding within52 S ofBits
+cosine-near-minus-zero = figure cosineCoefs 5 (negsuc 2) (5 * 2 ^ 77) tt tt (squareOf (neg zero64)) (rw minus-zero-square (omega arith))
 
 -- v * v of the ratio of two magnitudes, the smaller over the larger
 pub record Series-near (u : Float) : Type 0 where
