@@ -24,19 +24,19 @@ unfoldable pub framesDoubles : List Frame → List Float
 framesDoubles [] = []
 framesDoubles (f ∷ frames) = frameDoubles f ++ framesDoubles frames
 
--- the largest row at the unknowns from x on, told; below `ahead` nothing has changed
+-- the largest row at the unknowns from x on, told; below `ahead` nothing has changed, and what is left from there on is open
 pub record Worst (sc : Scene) (c : SceneStruct) (p : PlacesStruct) (s t : List Float) (x : ℕ) (worst : Float) : Type 0 where
   pub told : worst ≡ maxAbs (rowsOf sc (part s x (c .n)))
   pub size : length t ≡ length s
   pub below : take (p .ahead) t ≡ take (p .ahead) s
 
--- the runs have ended as o says: its unknowns stand at `x`, and ok says whether it converged
+-- the runs have ended as o says: its unknowns stand at `x`, and ok says whether it converged; what else is left in the scratch is open
 pub record Ended (c : SceneStruct) (p : PlacesStruct) (s t : List Float) (o : Outcome) (ok : Bool) : Type 0 where
   pub told : ok ≡ o .converged
   pub unknowns : part t (p .x) (c .n) ≡ o .x
   pub size : length t ≡ length s
 
--- the slices at entry and at exit, of a scene with m bodies and k relations
+-- the slices at entry and at exit, of a scene with m bodies and k relations; the scratch is left open
 pub record Filled (sc : Scene) (drag : Option ℕ) (m k : ℕ) (poses poses' frames frames' errors errors' : List Float) (ok : Bool) : Type 0 where
   pub poses-are : poses' ≡ posesDoubles (solve sc drag .poses) ++ drop (12 * m) poses
   pub frames-are : frames' ≡ framesDoubles (solve sc drag .frames) ++ drop (12 * m) frames

@@ -184,7 +184,7 @@ fn put_errors(sheet: &[u8], scene: Scene, s: &[f64], p: usize, errors: &mut [f64
     }
 }
 
-// `solve`: 12 doubles a body to `poses` and to `frames`, an error for each relation to `errors`. Whether it converged.
+// `solve`: 12 doubles a body to `poses` and to `frames`, an error for each relation to `errors`. Whether it converged. What is left in s is open: it is scratch.
 pub fn solve(
     sheet: &[u8],
     scene: Scene,

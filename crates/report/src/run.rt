@@ -35,7 +35,7 @@ fn answer(
     answer_text(out, converged == 1, errors, k, free, freedoms, m)
 }
 
-// Puts what `report` prints for the sheet to the front of `out`, and tells how many bytes it has.
+// Puts what `report` prints for the sheet to the front of `out`, and tells how many bytes it has. What is left in the other slices is open: they are working memory.
 pub fn report(
     sheet: &[u8],
     scratch: &mut [f64],

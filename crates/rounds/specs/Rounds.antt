@@ -46,6 +46,8 @@ triedIn c p s r = record { state = stateIn c p s (r .cost) (r .mu); better = r .
 
 -- ---- what a call leaves alone
 
+-- A part of the scratch that a promise below does not speak of is open after the call: nothing reads it before it is written again.
+
 -- the inverse weights, and the unknowns of the first run
 pub record Keeps (c : SceneStruct) (p : PlacesStruct) (s t : List Float) : Type 0 where
   pub size : length t ≡ length s
@@ -66,7 +68,7 @@ answerIn c p s mu =
     let a = matrixIn c p s in
     solveDense (dampTo a (c .rows) (mul binary64 mu (diagMax a (c .rows))) (c .rows)) (rowsIn c p s) (c .rows)
 
--- the equations solved: ok says whether there is an answer, and then it stands at `right`; what else is left at `damped` and `right` is open, it is scratch
+-- the equations solved: ok says whether there is an answer, and then it stands at `right`
 pub record Answered (c : SceneStruct) (p : PlacesStruct) (s t : List Float) (mu : Float) (ok : Bool) : Type 0 where
   pub told : ok ≡ given (answerIn c p s mu)
   pub answer : (y : List Float) → answerIn c p s mu ≡ some y → part t (p .right) (c .rows) ≡ y
@@ -105,8 +107,7 @@ pub record RoundMade (sc : Scene) (c : SceneStruct) (p : PlacesStruct) (s t : Li
   pub tried : triedIn c p t r ≡ oneRound (rowsOf sc) (weightsIn c p s) ASSEMBLY (stateIn c p s cost mu)
   pub keeps : Keeps c p s t
 
--- A run has ended as o says: its unknowns stand at `x`, and e says whether it converged and how many rounds were made. What is left in the other parts, but for those kept, is
--- open: it is scratch.
+-- a run has ended as o says: its unknowns stand at `x`, and e says whether it converged and how many rounds were made
 pub record Ran (c : SceneStruct) (p : PlacesStruct) (s t : List Float) (o : Outcome) (e : RunEndStruct) : Type 0 where
   pub told : e .converged ≡ o .converged
   pub made : e .rounds ≡ o .rounds
