@@ -15,7 +15,7 @@ unfolding column
 columns n v zero = []
 columns n v (suc i) = columns n v i ++ (column n v i n ∷ [])
 
--- what `sym_eigen` leaves of the matrix a: the turned matrix, the vectors in the columns of v, the values in vals
+-- what `sym_eigen` leaves of the matrix a: the turned matrix, the vectors in the columns of v, the values in vals; every place of the three is fixed
 pub record SymEigen (n : ℕ) (a m v vals : List Float) : Type 0 where
   pub matrix : m ≡ sweeps n 100 (turned a (unitTo n n)) .m
   pub values : vals ≡ map (λ (e : Eigen). e .value) (symEigen n a)

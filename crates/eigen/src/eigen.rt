@@ -273,7 +273,7 @@ fn sort(vals: &mut [f64], v: &mut [f64], n: usize)
     }
 }
 
-// The eigenvalues of the symmetric n by n matrix m into vals, and the unit vectors into the columns of v, in rising order. m is turned on the way.
+// The eigenvalues of the symmetric n by n matrix m into vals, and the unit vectors into the columns of v, in rising order. m holds the turned matrix at exit.
 pub fn sym_eigen(m: &mut [f64], v: &mut [f64], vals: &mut [f64], n: usize)
     requires { ⌜ length (now m) ≡ n * n ⌝ }
     requires { ⌜ length (now v) ≡ n * n ⌝ }

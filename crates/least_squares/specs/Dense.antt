@@ -27,13 +27,13 @@ abbrev pub given : {A : Type 0} → Option A → Bool
 given none = false
 given (some a) = true
 
--- the same where there may be no such system: ok says whether there is, and then memory holds it
+-- the same where there may be no such system: ok says whether there is, and then memory holds it; else what stands in the system's place is open
 pub record Reached (s t : List Float) (n : ℕ) (o : Option System) (ok : Bool) : Type 0 where
   pub told : ok ≡ given o
   pub system : (w : System) → o ≡ some w → systemAt t n ≡ w
   pub kept : Kept s t 0 (n * n + n)
 
--- `solve_dense`: ok says whether there is an answer, and then it stands in b's place
+-- `solve_dense`: ok says whether there is an answer, and then it stands in b's place. The matrix's place is scratch: what it holds at exit is open, and so is b's place where there is no answer
 pub record Dense (s t : List Float) (n : ℕ) (ok : Bool) : Type 0 where
   pub told : ok ≡ given (solveDense (part s 0 (n * n)) (part s (n * n) n) n)
   pub answer : (y : List Float) → solveDense (part s 0 (n * n)) (part s (n * n) n) n ≡ some y → part t (n * n) n ≡ y

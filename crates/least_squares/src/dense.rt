@@ -215,7 +215,7 @@ fn all_finite(s: &[f64], o: usize, n: usize) -> bool
     true
 }
 
-// a y = b: whether there is an answer, which then stands in b's place.
+// a y = b: whether there is an answer, which then stands in b's place. The matrix's place is scratch: what it holds at exit is open, and so is b's place where there is no answer.
 pub fn solve_dense(s: &mut [f64], n: usize) -> bool
     requires { ⌜ n * n + n ≤ length (now s) ⌝ }
     ensures { λ ok. ⌜ Dense (now (s .entry)) (now (s .exit)) n ok ⌝ }

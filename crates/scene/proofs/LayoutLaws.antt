@@ -144,7 +144,7 @@ laying-end sheet bodies m rels k l i e g =
     let n = length-layout (relsIn sheet rels k) 0 0 (listOf (λ i. bodyAt sheet (bodies + 136 * i)) m) ∙ length-listOf (λ i. bodyAt sheet (bodies + 136 * i)) m in
     let d = ap unknownsIn (drop-whole (layoutFrom (relsIn sheet rels k) 0 0 (listOf (λ i. bodyAt sheet (bodies + 136 * i)) m)) i (n ∙ sym e)) in
     let c = g .count in
-    record { unknown-count = omega arith; index = λ q h. g .placed q (rw e h) }
+    record { unknown-count = omega arith; index = λ q h. g .placed q (rw e h); unused = λ q h. g .free q (rw e h) }
 
 -- ---- the rows
 
@@ -182,4 +182,5 @@ scene-made sheet bodies m rels k l rows a b c d e f =
       body-count = refl;
       rels-at = refl;
       rel-count = refl;
+      unused = e .unused;
     }

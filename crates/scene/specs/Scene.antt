@@ -93,7 +93,7 @@ pub record PutNext (s t : List Float) (o r k : ℕ) (l : List Float) : Type 0 wh
   pub next : r ≡ o + k
   pub put : Put s t o k l
 
--- the rows at the unknowns from x on, from place r on; nothing else below p has changed
+-- the rows at the unknowns from x on, from place r on; nothing else below p has changed. The places from p on are scratch: only their number is promised, what they hold is open
 pub record RowsAt (sc : Scene) (s t : List Float) (x n r rows p : ℕ) : Type 0 where
   pub size : length t ≡ length s
   pub holds : part t r rows ≡ rowsOf sc (part s x n)
@@ -106,7 +106,7 @@ pub record Column (s t : List Float) (j n rows c : ℕ) (f : ℕ → Float) : Ty
   pub others : (i d : ℕ) → i < rows → d < n → (d ≡ c → ⊥) → getD t (j + (i * n + d)) nan ≡ getD s (j + (i * n + d)) nan
   pub kept : Kept s t j (j + rows * n)
 
--- column c of the slopes at the unknowns from x on; below a nothing outside the slopes has changed
+-- column c of the slopes at the unknowns from x on; below a nothing outside the slopes has changed. The places from a on are scratch: what they hold is open
 pub record SlopeColumn (sc : Scene) (s t : List Float) (j n rows x a c : ℕ) : Type 0 where
   pub size : length t ≡ length s
   pub entries : (i : ℕ) → i < rows → getD t (j + (i * n + c)) nan ≡ slope (rowsOf sc) (part s x n) i c
@@ -114,7 +114,7 @@ pub record SlopeColumn (sc : Scene) (s t : List Float) (j n rows x a c : ℕ) : 
   pub below : (q : ℕ) → q < j → getD t q nan ≡ getD s q nan
   pub between : (q : ℕ) → j + rows * n ≤ q → q < a → getD t q nan ≡ getD s q nan
 
--- the slopes at the unknowns from x on, from place j on; below a nothing else has changed
+-- the slopes at the unknowns from x on, from place j on; below a nothing else has changed. The places from a on are scratch: what they hold is open
 pub record Slopes (sc : Scene) (s t : List Float) (j n rows x a : ℕ) : Type 0 where
   pub size : length t ≡ length s
   pub holds : part t j (rows * n) ≡ jacobian (rowsOf sc) (part s x n) rows
@@ -131,12 +131,13 @@ relsIn sheet rels k = listOf (λ j. relAt sheet (rels + 264 * j)) k
 abbrev pub placeBody : UnknownsStruct → ℕ → Bool → UnknownsStruct
 placeBody l i moving = cond moving (record { n = l .n + 6; index = set (l .index) i (l .n) }) l
 
--- the layout of the m bodies and k relations at these places
+-- the layout of the m bodies and k relations at these places; the entries behind the last body's are 65535
 pub record LaidOut (sheet : List ℕ) (bodies m rels k : ℕ) (l : UnknownsStruct) : Type 0 where
   pub unknown-count : l .n ≡ unknowns (sceneIn sheet bodies m rels k)
   pub index : (i : ℕ) → i < m → getD (layout (sceneIn sheet bodies m rels k)) i none ≡ firstUnknown (getD (l .index) i 0)
+  pub unused : (i : ℕ) → m ≤ i → i < 64 → getD (l .index) i 0 ≡ 0xFFFF
 
--- the scene of the m bodies and k relations at these places
+-- the scene of the m bodies and k relations at these places; `laid` fixes the counts and the m bodies' entries of `index`, `unused` the entries behind them
 pub record SceneMade (sheet : List ℕ) (bodies m rels k : ℕ) (c : SceneStruct) : Type 0 where
   pub laid : Laid sheet c
   pub scene : sceneOf sheet c ≡ sceneIn sheet bodies m rels k
@@ -144,3 +145,4 @@ pub record SceneMade (sheet : List ℕ) (bodies m rels k : ℕ) (c : SceneStruct
   pub body-count : c .m ≡ m
   pub rels-at : c .rels ≡ rels
   pub rel-count : c .k ≡ k
+  pub unused : (i : ℕ) → m ≤ i → i < 64 → getD (c .index) i 0 ≡ 0xFFFF

@@ -256,7 +256,7 @@ pub fn residuals(sheet: &[u8], scene: Scene, s: &mut [f64], p: usize, r: usize)
     }
 }
 
-// The rows at the unknowns from x on, to the places from r on; poses from p on.
+// The rows at the unknowns from x on, to the places from r on. The places from p on are scratch for the poses; what they hold at exit is open.
 pub fn rows_at(sheet: &[u8], scene: Scene, s: &mut [f64], x: usize, r: usize, p: usize)
     requires { ⌜ spec.Laid (now sheet) scene ⌝ }
     requires { ⌜ x + scene .n ≤ r ⌝ }
@@ -453,7 +453,7 @@ fn count_rows(sheet: &[u8], rels: usize, k: usize) -> usize
     rows
 }
 
-// The scene of the m bodies and k relations at these places of the sheet.
+// The scene of the m bodies and k relations at these places of the sheet. The entries of `index` from m on are 65535.
 pub fn scene_of(sheet: &[u8], bodies: usize, m: usize, rels: usize, k: usize) -> Scene
     requires { ⌜ m ≤ 64 ⌝ }
     requires { ⌜ k ≤ 128 ⌝ }
