@@ -8,6 +8,7 @@ use lib.ListN.{length, getD, set, replicate}
 use lib.Dec.{eqb, ltb}
 use lib.Ieee.{Float, nan, binary64, add, mul, div, neg, lt, le, ofBits}
 use Rattle.numbers.specs.Ops.{doubles}
+use Rattle.numbers.specs.Sum.{sumFrom}
 use Rattle.numbers.specs.Double.{zero64, one64, abs, fmax, before}
 use Rattle.arcs.specs.Root.{root}
 use Rattle.vectors.specs.Tol.{DOF-REL}
@@ -16,7 +17,7 @@ use Rattle.eigen.specs.Eigen.{Eigen, symEigen}
 use Rattle.spans.specs.Span.{spanBasis}
 use Rattle.relations.specs.Geometry.{Pose}
 use Rattle.relations.specs.Model.{Body, Rel, poseOfFrame}
-use Rattle.least_squares.specs.Lm.{listOf, tableOf, sumFrom, jacobian}
+use Rattle.least_squares.specs.Lm.{listOf, tableOf, jacobian}
 use Rattle.scene.specs.Solve.{Scene, names, moves, layout, unknowns, three, movedPose, posesAt, allRows, halfSize}
 
 -- a turn about a line: its direction and a point of it
@@ -33,7 +34,7 @@ pub record Freedom : Type 0 where
 
 -- column i times column j of the slopes, summed from -0
 unfoldable pub columnsTimes : List Float → ℕ → ℕ → ℕ → ℕ → Float
-columnsTimes jac rows cols i j = sumFrom (neg zero64) (λ r. mul binary64 (getD jac (r * cols + i) nan) (getD jac (r * cols + j) nan)) rows
+columnsTimes jac rows cols i j = sumFrom doubles (neg zero64) (λ r. mul binary64 (getD jac (r * cols + i) nan) (getD jac (r * cols + j) nan)) rows
 
 abbrev pub squareOf : List Float → ℕ → ℕ → List Float
 squareOf jac rows cols = tableOf (columnsTimes jac rows cols) cols cols

@@ -6,6 +6,8 @@ use lib.ListN.{getD, set}
 use lib.Dec.{eqb}
 use lib.Ieee.{Float, nan, binary64, add, sub, mul, div, neg, lt, le, eq, ofBits}
 use Rattle.numbers.specs.Double.{zero64, one64, abs, fmax, signum, before}
+use Rattle.numbers.specs.Ops.{doubles}
+use Rattle.numbers.specs.Sum.{sumFrom}
 use Rattle.arcs.specs.Root.{root}
 use Rattle.eigen.specs.Sort.{sort}
 
@@ -34,8 +36,8 @@ offTo m n (suc i) = offRow m n i (offTo m n i) n
 
 -- the squares on the diagonal, summed from -0
 unfoldable pub diagTo : List Float → ℕ → ℕ → Float
-diagTo m n zero = neg zero64
-diagTo m n (suc i) = add binary64 (diagTo m n i) (square (getD m (i * n + i) nan))
+unfolding sumFrom
+diagTo m n i = sumFrom doubles (neg zero64) (λ k. square (getD m (k * n + k) nan)) i
 
 -- the sweeps end where what is off the diagonal is at most 1e-30 of what is on it, itself at least 1e-300
 unfoldable pub settled : List Float → ℕ → Bool

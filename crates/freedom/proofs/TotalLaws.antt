@@ -15,9 +15,11 @@ use lib.ListN.{length, getD, set, take, drop, length-set, length-take, length-dr
 use lib.Seq.{getD-set-same, getD-set-other, ext-getD, set-set, take-suc-set, drop-set-add, drop-cons}
 use lib.Ieee.{Float, nan, binary64, add, sub, mul, div, neg, lt, le}
 use Rattle.numbers.specs.Double.{zero64, fmax}
+use Rattle.numbers.specs.Ops.{doubles}
+use Rattle.numbers.specs.Sum.{sumFrom}
 use Rattle.arcs.specs.Root.{root}
 use Rattle.eigen.specs.Eigen.{Eigen, symEigen}
-use Rattle.least_squares.specs.Lm.{listOf, tableOf, sumFrom, stepOf, slopeOf, ahead, behind, slope, jacobian}
+use Rattle.least_squares.specs.Lm.{listOf, tableOf, stepOf, slopeOf, ahead, behind, slope, jacobian}
 use Rattle.least_squares.specs.LmPosts.{Copied}
 use Rattle.least_squares.specs.Memory.{part, Kept}
 use Rattle.relations.specs.Model.{Body, Rel}
@@ -262,11 +264,11 @@ clear-step o s at i k h l r e =
 abbrev pub productsIn : List Float → ℕ → ℕ → ℕ → ℕ → Float
 productsIn s n i j r = mul binary64 (getD s (r * n + i) nan) (getD s (r * n + j) nan)
 
-pub columns-times-is : (s : List Float) (rows n i j r : ℕ) (t : Float) → i < n → j < n → r ≡ rows → t ≡ sumFrom (neg zero64) (productsIn s n i j) r
+pub columns-times-is : (s : List Float) (rows n i j r : ℕ) (t : Float) → i < n → j < n → r ≡ rows → t ≡ sumFrom doubles (neg zero64) (productsIn s n i j) r
     → t ≡ columnsTimes (part s 0 (rows * n)) rows n i j
 unfolding columnsTimes
 columns-times-is s rows n i j r t h l e f =
-    f ∙ ap (sumFrom (neg zero64) (productsIn s n i j)) e
+    f ∙ ap (sumFrom doubles (neg zero64) (productsIn s n i j)) e
     ∙ sum-same (neg zero64) (productsIn s n i j) (λ q. mul binary64 (getD (part s 0 (rows * n)) (q * n + i) nan) (getD (part s 0 (rows * n)) (q * n + j) nan)) rows
     (λ q m. λ k. mul binary64 (at q i m h k) (at q j m l k))
   where

@@ -1,4 +1,5 @@
 pub mod MemoryLaws
 pub mod TableLaws
 pub mod LmLaws
+pub mod SumLaws
 pub mod DenseLaws

@@ -10,8 +10,10 @@ use lib.ListN.{length, getD, set, take, drop, length-drop}
 use lib.Seq.{drop-set-add, take-suc-set, take-suc, getD-drop, getD-set-same, getD-set-other, ext-getD}
 use lib.Ieee.{Float, nan, binary64, sub, mul}
 use Rattle.numbers.specs.Double.{zero64}
+use Rattle.numbers.specs.Ops.{doubles}
+use Rattle.numbers.specs.Sum.{sumFrom}
 use Rattle.least_squares.specs.Memory.{part, Kept}
-use Rattle.least_squares.specs.Lm.{listOf, sumFrom, gram, gramAt, normal, normalAt, steppedAt, stepped}
+use Rattle.least_squares.specs.Lm.{listOf, gram, gramAt, normal, normalAt, steppedAt, stepped}
 use Rattle.least_squares.specs.LmPosts.{MatrixRow}
 use Rattle.least_squares.proofs.MemoryLaws.{part-at, part-set, part-length, kept-set, kept-trans, kept-wider, kept-at-below, kept-at-above, kept-part-below, kept-part-above}
 use Rattle.least_squares.proofs.TableLaws.{in-rows, sum-same, table-ext, length-listOf, getD-listOf}
@@ -152,7 +154,7 @@ abbrev pub columnTerm : List Float → ℕ → ℕ → ℕ → ℕ → ℕ → F
 columnTerm s o n y c i = mul binary64 (getD s (o + (i * n + c)) nan) (getD s (y + i) nan)
 
 pub stepped-is : (s : List Float) (n rows x o w y c : ℕ) → c < n → x + n ≤ length s
-    → sub binary64 (getD s (x + c) nan) (mul binary64 (getD s (w + c) nan) (sumFrom zero64 (columnTerm s o n y c) rows))
+    → sub binary64 (getD s (x + c) nan) (mul binary64 (getD s (w + c) nan) (sumFrom doubles zero64 (columnTerm s o n y c) rows))
     ≡ steppedAt (part s x n) (part s o (rows * n)) (part s w n) (part s y rows) rows c
 unfolding steppedAt
 stepped-is s n rows x o w y c h l =

@@ -8,14 +8,16 @@ use native.Mathlib.Nat.{not-suc-le-zero, le-of-suc-le-suc, eq-or-lt-of-le, zero-
 use lib.ListN.{length, getD, length-append, List·getD-append}
 use lib.Seq.{getD-append-seam, getD-append-add, ext-getD}
 use lib.Ieee.{Float, nan, binary64, add}
-use Rattle.least_squares.specs.Lm.{listOf, tableOf, sumFrom}
+use Rattle.numbers.specs.Ops.{doubles}
+use Rattle.numbers.specs.Sum.{sumFrom}
+use Rattle.least_squares.specs.Lm.{listOf, tableOf}
 
 pub length-listOf : {A : Type 0} (f : ℕ → A) (n : ℕ) → length (listOf f n) ≡ n
 unfolding listOf
 length-listOf f zero = refl
 length-listOf f (suc n) = length-append (listOf f n) (f n ∷ []) ∙ (let e = length-listOf f n in omega arith)
 
-pub sum-same : (s : Float) (f g : ℕ → Float) (n : ℕ) → ((i : ℕ) → i < n → f i ≡ g i) → sumFrom s f n ≡ sumFrom s g n
+pub sum-same : (s : Float) (f g : ℕ → Float) (n : ℕ) → ((i : ℕ) → i < n → f i ≡ g i) → sumFrom doubles s f n ≡ sumFrom doubles s g n
 unfolding sumFrom
 sum-same s f g zero h = refl
 sum-same s f g (suc n) h = λ i. add binary64 (sum-same s f g n (λ k l. h k (omega arith)) i) (h n (omega arith) i)

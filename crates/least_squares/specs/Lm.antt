@@ -1,6 +1,6 @@
 -- lm.rs: the damped, weighted least-norm steps that bring the rows of a function f of the unknowns to 0. Document 01, "The train of files", item 5. A matrix is the
--- list of its rows laid end to end. Every unknown is free, so Rust's `free` is all of them. `max_abs` is `maxAbs` of the crate numbers. Definitions only; `rank` is
--- left out.
+-- list of its rows laid end to end. Every unknown is free, so Rust's `free` is all of them. `max_abs` is `maxAbs` of the crate numbers, and a sum its
+-- `sumFrom`. Definitions only; `rank` is left out.
 use Prim.Native.Nat.{ℕ, zero, suc, _+_, _-_, _*_, min, max}
 use mathlib.Core.Bool.{Bool, true, false, not, _&&_, _||_, cond}
 use mathlib.Core.List.{List, [], _∷_, _++_, map}
@@ -9,6 +9,8 @@ use lib.ListN.{length, getD, set}
 use lib.Dec.{eqb, ltb}
 use lib.Ieee.{Float, nan, binary64, add, sub, mul, div, neg, lt, le, eq, ofBits}
 use Rattle.numbers.specs.Double.{zero64, one64, abs, fmax, isFinite}
+use Rattle.numbers.specs.Ops.{doubles}
+use Rattle.numbers.specs.Sum.{sumFrom}
 use Rattle.numbers.specs.MaxAbs.{maxAbs}
 
 -- the entries f 0, f 1, .. of a list of the length n; and of a matrix of so many rows and columns, row after row
@@ -21,15 +23,10 @@ unfolding listOf
 tableOf f cols zero = []
 tableOf f cols (suc rows) = tableOf f cols rows ++ listOf (f rows) cols
 
--- f 0 + f 1 + .., n terms, from a first value
-unfoldable pub sumFrom : Float → (ℕ → Float) → ℕ → Float
-sumFrom s f zero = s
-sumFrom s f (suc n) = add binary64 (sumFrom s f n) (f n)
-
 -- the squares, summed from -0
 unfoldable pub norm2 : List Float → Float
 unfolding sumFrom
-norm2 v = sumFrom (neg zero64) (λ i. mul binary64 (getD v i nan) (getD v i nan)) (length v)
+norm2 v = sumFrom doubles (neg zero64) (λ i. mul binary64 (getD v i nan) (getD v i nan)) (length v)
 
 -- ---- slopes
 
@@ -159,11 +156,11 @@ solveDense a b n = andThen (eliminateTo (record { a = a; b = b }) (scaleOf a) n 
 
 -- row i times row k of the slopes, weighted, summed from +0
 unfoldable pub gram : List Float → List Float → ℕ → ℕ → ℕ → Float
-gram jac winv n i k = sumFrom zero64 (λ c. mul binary64 (mul binary64 (getD jac (i * n + c) nan) (getD jac (k * n + c) nan)) (getD winv c nan)) n
+gram jac winv n i k = sumFrom doubles zero64 (λ c. mul binary64 (mul binary64 (getD jac (i * n + c) nan) (getD jac (k * n + c) nan)) (getD winv c nan)) n
 
 -- the same in memory: n doubles from i on, from k on and from w on
 unfoldable pub gramAt : List Float → ℕ → ℕ → ℕ → ℕ → Float
-gramAt s i k w n = sumFrom zero64 (λ c. mul binary64 (mul binary64 (getD s (i + c) nan) (getD s (k + c) nan)) (getD s (w + c) nan)) n
+gramAt s i k w n = sumFrom doubles zero64 (λ c. mul binary64 (mul binary64 (getD s (i + c) nan) (getD s (k + c) nan)) (getD s (w + c) nan)) n
 
 -- J W⁻¹ Jᵀ, the same on both sides of its diagonal
 abbrev pub normalAt : List Float → List Float → ℕ → ℕ → ℕ → Float
@@ -188,7 +185,7 @@ dampTo a rows d (suc i) = let l = dampTo a rows d i in set l (i * rows + i) (add
 -- the unknown c after the step that y gives
 unfoldable pub steppedAt : List Float → List Float → List Float → List Float → ℕ → ℕ → Float
 steppedAt x jac winv y rows c =
-    sub binary64 (getD x c nan) (mul binary64 (getD winv c nan) (sumFrom zero64 (λ i. mul binary64 (getD jac (i * length x + c) nan) (getD y i nan)) rows))
+    sub binary64 (getD x c nan) (mul binary64 (getD winv c nan) (sumFrom doubles zero64 (λ i. mul binary64 (getD jac (i * length x + c) nan) (getD y i nan)) rows))
 
 unfoldable pub stepped : List Float → List Float → List Float → List Float → ℕ → List Float
 stepped x jac winv y rows = listOf (steppedAt x jac winv y rows) (length x)

@@ -1,12 +1,12 @@
 -- A formula over `Ops` bounded by evaluation. Read on `bounds` it computes its own bound. Read on `bounded`, whose numbers carry a double, a fraction, a bound and the proof that
 -- they are near, it is its own proof: the double is the formula on doubles, the fraction the formula on fractions. Assumes nothing.
 use mathlib.Core.Logic.{_⊎_, inl, inr}
-use Prim.Native.Nat.{ℕ, _+_, _*_, _/_, _≤_, _<_, max}
-use native.Mathlib.Nat.{le-trans, mul-le-mul-right, le-of-mul-le-mul-right, le-max-left, le-max-right, lt-div-mul-add}
+use Prim.Native.Nat.{ℕ, zero, suc, _+_, _*_, _/_, _≤_, _<_, max}
+use native.Mathlib.Nat.{not-suc-le-zero, le-of-suc-le-suc, le-trans, mul-le-mul-right, le-of-mul-le-mul-right, le-max-left, le-max-right, lt-div-mul-add}
 use native.Mathlib.Omega.{arith}
 use mathlib.Core.Bool.{Bool, true, false, _&&_, _||_, cond}
 use mathlib.Core.List.{List, [], _∷_, map}
-use lib.ListN.{length, replicate}
+use lib.ListN.{length, getD, replicate}
 use mathlib.Core.Path.{_≡_, refl, ap}
 use lib.Dec.{T, leb, ltb, eqb, eqb→eq, leb→le}
 use lib.IntN.{ℤ}
@@ -97,6 +97,11 @@ input m x h = record { double = x; frac = fracOf x; bound = exactly m; near = λ
 abbrev pub AllSmall : ℕ → List Float → Type 0
 AllSmall m [] = Unit {0}
 AllSmall m (x ∷ l) = Small m x × AllSmall m l
+
+pub small-at : (m : ℕ) (l : List Float) (k : ℕ) (d : Float) → AllSmall m l → k < length l → Small m (getD l k d)
+small-at m [] k d a h = absurd (not-suc-le-zero h)
+small-at m (x ∷ l) zero d a h = a .0
+small-at m (x ∷ l) (suc k) d a h = small-at m l k d (a .1) (le-of-suc-le-suc h)
 
 -- doubles of at most k / S each
 abbrev pub inputs : (k : ℕ) (cs : List Float) → AllSmall k cs → List Bounded

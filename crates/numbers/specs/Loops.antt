@@ -10,7 +10,6 @@ use lib.Ieee.{Float}
 use Rattle.numbers.specs.Ops.{Ops}
 use Rattle.numbers.specs.Double.{zero64}
 use Rattle.numbers.specs.Horner.{horner}
-use Rattle.numbers.specs.Sum.{sumOf, minusZero64}
 use Rattle.numbers.specs.MaxAbs.{maxAbs, maxAbsStep}
 
 pub fold-step : {A B : Type 0} (f : B → A → B) (b : B) (l : List A) (k : ℕ) (d : A) → k < length l → foldl f b (take (suc k) l) ≡ f (foldl f b (take k l)) (getD l k d)
@@ -26,15 +25,6 @@ unfolding maxAbs
 maxAbs-step l k d h = fold-step maxAbsStep zero64 l k d h
 
 module _ {C : Type 0} (o : Ops C) where
-  -- ---- sums
-  pub sum-none : sumOf o [] ≡ o .of minusZero64
-  unfolding sumOf
-  sum-none = refl
-
-  pub sum-step : (l : List C) (k : ℕ) (d : C) → k < length l → sumOf o (take (suc k) l) ≡ o .add (sumOf o (take k l)) (getD l k d)
-  unfolding sumOf
-  sum-step l k d h = fold-step (o .add) (o .of minusZero64) l k d h
-
   -- ---- Horner's rule, from the top coefficient down
   pub horner-top : (cs : List C) (z : C) (i : ℕ) (d : C) → suc i ≡ length cs → horner o (drop i cs) z ≡ getD cs i d
   unfolding horner

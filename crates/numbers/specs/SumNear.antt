@@ -1,53 +1,93 @@
--- A sum of doubles keeps near the sum of the fractions, for any length. Its bound is the sum read on `bounds`, which the kernel evaluates (`sum-bounded`); for entries of one size it is
--- also written out in the length (`sum-near`). Assumes nothing.
-use Prim.Native.Nat.{ℕ, suc, _+_, _*_, _/_, _^_, _≤_, _<_}
-use native.Mathlib.Nat.{le-trans}
+-- A sum of doubles keeps near the sum of the fractions, for any number of terms. Its bound is the sum read on `bounds`, which the kernel evaluates (`sum-bounded`). For terms of one
+-- bound, from a zero of either sign, it is also written out in the length (`sum-near`): for doubles of one size (`sum-small`), and for products of two (`products-near`). Assumes nothing.
+use Prim.Native.Nat.{ℕ, zero, suc, _+_, _*_, _/_, _^_, _≤_, _<_}
+use native.Mathlib.Nat.{le-trans, lt-of-le-of-lt, mul-le-mul-right}
 use native.Mathlib.Omega.{arith}
-use mathlib.Core.List.{List, [], _∷_, map, foldl}
 use lib.Dec.{T}
-use lib.ListN.{length}
-use lib.Ieee.{Float, ofBits}
-use Rattle.numbers.specs.Frac.{Frac, fracOf, addQ}
+use lib.Ieee.{Float, binary64, mul, neg, ofBits}
+use Rattle.numbers.specs.Frac.{Frac, fracOf, mulQ}
+use Rattle.numbers.specs.Double.{zero64}
 use Rattle.numbers.specs.Ops.{doubles, fractions}
-use Rattle.numbers.specs.Sum.{sumOf, minusZero64}
-use Rattle.numbers.specs.Near.{Near, S, addBound, exactly, upTo, near-add, near-self, near-weaken, rounds-by}
-use Rattle.numbers.specs.Bound.{Bounded, AllSmall, bounds, constBound, near-const}
+use Rattle.numbers.specs.Sum.{sumFrom}
+use Rattle.numbers.specs.Near.{Bound, Near, S, roundBound, addBound, mulBound, exactly, upTo, near-add, near-mul, near-self, near-weaken, rounds-by}
+use Rattle.numbers.specs.Bound.{Bounded, Small, bounds}
 
 -- ---- the bound by evaluation
-fold-bounded : (s : Bounded) (l : List Bounded) → T (foldl addBound (s .bound) (map (λ c. c .bound) l) .ok)
-    → Near (foldl (doubles .add) (s .double) (map (λ c. c .double) l)) (foldl addQ (s .frac) (map (λ c. c .frac) l)) (foldl addBound (s .bound) (map (λ c. c .bound) l))
-fold-bounded s [] t = s .near t
-fold-bounded s (x ∷ l) t =
-    fold-bounded (record { double = doubles .add (s .double) (x .double); frac = addQ (s .frac) (x .frac); bound = addBound (s .bound) (x .bound); near = near-add (s .double) (x .double) (s .frac) (x .frac) (s .bound) (x .bound) (s .near) (x .near) })
-    l t
+pub sum-bounded : (s : Bounded) (f : ℕ → Bounded) (n : ℕ) → T (sumFrom bounds (s .bound) (λ k. f k .bound) n .ok)
+    → Near (sumFrom doubles (s .double) (λ k. f k .double) n) (sumFrom fractions (s .frac) (λ k. f k .frac) n) (sumFrom bounds (s .bound) (λ k. f k .bound) n)
+unfolding sumFrom
+sum-bounded s f zero t = s .near t
+sum-bounded s f (suc n) t = near-add _ _ _ _ (sumFrom bounds (s .bound) (λ k. f k .bound) n) (f n .bound) (sum-bounded s f n) (f n .near) t
 
-pub sum-bounded : (l : List Bounded) → T (sumOf bounds (map (λ c. c .bound) l) .ok)
-    → Near (sumOf doubles (map (λ c. c .double) l)) (sumOf fractions (map (λ c. c .frac) l)) (sumOf bounds (map (λ c. c .bound) l))
-unfolding sumOf
-sum-bounded l t = fold-bounded (record { double = minusZero64; frac = fracOf minusZero64; bound = constBound minusZero64; near = near-const minusZero64 }) l t
+-- ---- the zeros that sums start from
+pub zero-small : Small 0 zero64
+unfolding ofBits
+zero-small = (tt, omega arith)
 
--- ---- a sum of n entries of at most M / S: the bound is n * 2 ^ i units where all n, with their errors, stay below 2 ^ (54 + i) units
-module _ (M i : ℕ) (I : i ≤ 1000) where
-  sum-from : (l : List Float) (k : ℕ) (s : Float) (Q : Frac) → (k + length l) * (M + 2 ^ i) + 1 < 2 ^ (54 + i) → AllSmall M l → Near s Q (upTo (k * M + 1) (k * 2 ^ i))
-      → Near (foldl (doubles .add) s l) (foldl addQ Q (map fracOf l)) (upTo ((k + length l) * M + 1) ((k + length l) * 2 ^ i))
-  unfolding addBound
-  sum-from [] k s Q room a h = near-weaken s Q (upTo (k * M + 1) (k * 2 ^ i)) ((k + 0) * M + 1) ((k + 0) * 2 ^ i) (omega arith) (omega arith) h
-  sum-from (x ∷ l) k s Q room a h =
-      let r = rounds-by (k * M + 1 + M) (k * 2 ^ i + 0) i I (fits k (length l) M (2 ^ i) (2 ^ (54 + i)) room) in
-      let n = near-add s x Q (fracOf x) (upTo (k * M + 1) (k * 2 ^ i)) (exactly M) (λ t. h) (λ t. near-self x M (a .0 .0) (a .0 .1)) (r .0) in
-      near-weaken _ _ (upTo ((suc k + length l) * M + 1) ((suc k + length l) * 2 ^ i)) ((k + suc (length l)) * M + 1) ((k + suc (length l)) * 2 ^ i) (omega arith) (omega arith)
-      (sum-from l (suc k) (doubles .add s x) (addQ Q (fracOf x)) (next k (length l) (M + 2 ^ i) (2 ^ (54 + i)) room) (a .1)
-      (near-weaken _ _ _ (suc k * M + 1) (suc k * 2 ^ i) (omega arith) (le-trans (r .1) (omega arith)) n))
+pub minus-zero-small : Small 0 (neg zero64)
+unfolding neg ofBits
+minus-zero-small = (tt, omega arith)
+
+-- ---- n terms, each within the bound b of its fraction: each adds b and 2 ^ i units of rounding, where all n, with their errors, stay below 2 ^ (54 + i) units
+module _ (b : Bound) (i : ℕ) (I : i ≤ 1000) (f : ℕ → Float) (F : ℕ → Frac) where
+  -- from a start that holds k such terms already
+  pub sum-on : (k n : ℕ) (s : Float) (Q : Frac) → (k + n) * (b .most + b .off + 2 ^ i) < 2 ^ (54 + i) → ((j : ℕ) → j < n → Near (f j) (F j) b)
+      → Near s Q (upTo (k * b .most) (k * (b .off + 2 ^ i))) → Near (sumFrom doubles s f n) (sumFrom fractions Q F n) (upTo ((k + n) * b .most) ((k + n) * (b .off + 2 ^ i)))
+  unfolding sumFrom addBound
+  sum-on k zero s Q room h g = near-weaken s Q _ ((k + 0) * b .most) ((k + 0) * (b .off + 2 ^ i)) (omega arith) (omega arith) g
+  sum-on k (suc n) s Q room h g =
+      let r = rounds-by ((k + n) * b .most + b .most) ((k + n) * (b .off + 2 ^ i) + b .off) i I (fits k n (b .most) (b .off) (2 ^ i) (2 ^ (54 + i)) room) in
+      let before = sum-on k n s Q (fewer k n (b .most + b .off + 2 ^ i) (2 ^ (54 + i)) room) (λ j l. h j (omega arith)) g in
+      let term = near-weaken (f n) (F n) b (b .most) (b .off) (omega arith) (omega arith) (h n (omega arith)) in
+      near-weaken _ _ _ ((k + suc n) * b .most) ((k + suc n) * (b .off + 2 ^ i)) (omega arith) (le-trans (r .1) (last k n (b .off) (2 ^ i)))
+      (near-add _ (f n) _ (F n) (upTo ((k + n) * b .most) ((k + n) * (b .off + 2 ^ i))) (upTo (b .most) (b .off)) (λ t. before) (λ t. term) (r .0))
     where
-      fits : (k n M P B : ℕ) → (k + suc n) * (M + P) + 1 < B → k * M + 1 + M + (k * P + 0) < B
-      fits k n M P B h = omega arith
+      fits : (k n M E P B : ℕ) → (k + suc n) * (M + E + P) < B → (k + n) * M + M + ((k + n) * (E + P) + E) < B
+      fits k n M E P B h = omega arith
 
-      next : (k n W B : ℕ) → (k + suc n) * W + 1 < B → (suc k + n) * W + 1 < B
-      next k n W B h = omega arith
+      fewer : (k n W B : ℕ) → (k + suc n) * W < B → (k + n) * W < B
+      fewer k n W B h = omega arith
 
-  pub sum-near : (l : List Float) → length l * (M + 2 ^ i) + 1 < 2 ^ (54 + i) → AllSmall M l
-      → Near (sumOf doubles l) (sumOf fractions (map fracOf l)) (upTo (length l * M + 1) (length l * 2 ^ i))
-  unfolding sumOf ofBits
-  sum-near l room a =
-      near-weaken _ _ (upTo ((0 + length l) * M + 1) ((0 + length l) * 2 ^ i)) (length l * M + 1) (length l * 2 ^ i) (omega arith) (omega arith)
-      (sum-from l 0 minusZero64 (fracOf minusZero64) (omega arith) a (near-weaken minusZero64 (fracOf minusZero64) (exactly 0) (0 * M + 1) (0 * 2 ^ i) (omega arith) (omega arith) (near-self minusZero64 0 tt (omega arith))))
+      last : (k n E P : ℕ) → (k + n) * (E + P) + E + P ≤ (k + suc n) * (E + P)
+      last k n E P = omega arith
+
+  pub sum-near : (n : ℕ) (s : Float) → Small 0 s → n * (b .most + b .off + 2 ^ i) < 2 ^ (54 + i) → ((j : ℕ) → j < n → Near (f j) (F j) b)
+      → Near (sumFrom doubles s f n) (sumFrom fractions (fracOf s) F n) (upTo (n * b .most) (n * (b .off + 2 ^ i)))
+  sum-near n s z room h =
+      near-weaken _ _ _ (n * b .most) (n * (b .off + 2 ^ i)) (omega arith) (omega arith)
+      (sum-on 0 n s (fracOf s) (omega arith) h (near-weaken s (fracOf s) (exactly 0) _ _ (omega arith) (omega arith) (near-self s 0 (z .0) (z .1))))
+
+-- n doubles of at most M / S
+pub sum-small : (M i : ℕ) → i ≤ 1000 → (f : ℕ → Float) (n : ℕ) (s : Float) → Small 0 s → n * (M + 2 ^ i) < 2 ^ (54 + i) → ((j : ℕ) → j < n → Small M (f j))
+    → Near (sumFrom doubles s f n) (sumFrom fractions (fracOf s) (λ j. fracOf (f j)) n) (upTo (n * M) (n * 2 ^ i))
+sum-small M i I f n s z room h =
+    near-weaken _ _ _ (n * M) (n * 2 ^ i) (omega arith) (omega arith)
+    (sum-near (exactly M) i I f (λ j. fracOf (f j)) n s z (omega arith) (λ j l. near-self (f j) M (h j l .0) (h j l .1)))
+
+-- ---- n products of two doubles of at most A / S and B / S
+abbrev pub productBound : ℕ → ℕ → Bound
+productBound A B = mulBound (exactly A) (exactly B)
+
+pub product-near : (A B i : ℕ) → i ≤ 1000 → (x y : Float) → Small A x → Small B y → productBound A B .most + productBound A B .off + 2 ^ i < 2 ^ (54 + i)
+    → Near (mul binary64 x y) (mulQ (fracOf x) (fracOf y)) (productBound A B)
+unfolding mulBound roundBound
+product-near A B i I x y h k room =
+    let m = A * B / S + 1 in
+    let e = (0 * B + 0 * A + 0 * 0) / S + 1 in
+    let r = rounds-by m e i I (below m e _ (2 ^ i) (2 ^ (54 + i)) room) in
+    near-mul x y _ _ (exactly A) (exactly B) (λ t. near-self x A (h .0) (h .1)) (λ t. near-self y B (k .0) (k .1)) (r .0)
+  where
+    below : (m e x P B : ℕ) → m + (e + x) + P < B → m + e < B
+    below m e x P B h = omega arith
+
+-- one term has room where n have
+pub one-fits : (j n W B : ℕ) → j < n → n * W < B → W < B
+one-fits j n W B l h = lt-of-le-of-lt (let m = mul-le-mul-right W l in omega arith) h
+
+pub products-near : (A B i : ℕ) → i ≤ 1000 → (f g : ℕ → Float) (n : ℕ) (s : Float) → Small 0 s → n * (productBound A B .most + productBound A B .off + 2 ^ i) < 2 ^ (54 + i)
+    → ((j : ℕ) → j < n → Small A (f j)) → ((j : ℕ) → j < n → Small B (g j))
+    → Near (sumFrom doubles s (λ j. mul binary64 (f j) (g j)) n) (sumFrom fractions (fracOf s) (λ j. mulQ (fracOf (f j)) (fracOf (g j))) n)
+    (upTo (n * productBound A B .most) (n * (productBound A B .off + 2 ^ i)))
+products-near A B i I f g n s z room h k =
+    sum-near (productBound A B) i I (λ j. mul binary64 (f j) (g j)) (λ j. mulQ (fracOf (f j)) (fracOf (g j))) n s z room
+    (λ j l. product-near A B i I (f j) (g j) (h j l) (k j l) (one-fits j n _ (2 ^ (54 + i)) l room))

@@ -3,7 +3,7 @@ use mathlib.Core.Path.{_≡_, refl}
 use Prim.Native.Nat.{_-_, _≤_}
 use native.Mathlib.Omega.{arith}
 use native.Mathlib.Numerals.{add-one}
-use Rattle.least_squares.specs.Lm.{sumFrom}
+use Rattle.numbers.specs.Sum.{sumFrom}
 use Rattle.body_freedom.specs.Dof.{columnsTimes}
 use Rattle.body_freedom.proofs.body_slopes.columns_times.Statement.{statement}
 use Rattle.body_freedom.proofs.body_slopes.columns_times.Tie as tie

@@ -6,13 +6,14 @@ use native.Mathlib.Omega.{arith}
 use native.Mathlib.Numerals.{add-one}
 use lib.Ieee.{neg}
 use Rattle.numbers.specs.Double.{zero64}
-use Rattle.least_squares.specs.Lm.{sumFrom}
+use Rattle.numbers.specs.Ops.{doubles}
+use Rattle.numbers.specs.Sum.{sumFrom}
 use Rattle.least_squares.proofs.TableLaws.{in-rows}
 use Rattle.freedom.proofs.total.columns_times.Statement.{statement}
 use Rattle.freedom.proofs.total.columns_times.Tie as tie
 
 abbrev Inv-loop : tie.InvT-loop
-Inv-loop s rows n i j t₀ r₀ t r = (r ≤ rows) × (t ≡ sumFrom (neg zero64) (productsIn s n i j) r)
+Inv-loop s rows n i j t₀ r₀ t r = (r ≤ rows) × (t ≡ sumFrom doubles (neg zero64) (productsIn s n i j) r)
 
 abbrev μ-loop : tie.MeasureT-loop
 μ-loop s rows n i j t₀ r₀ t r = rows - r

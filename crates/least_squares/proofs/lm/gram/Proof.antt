@@ -1,6 +1,7 @@
 -- `least_squares::lm::gram` meets its contract. Assumes nothing.
 use native.Mathlib.Omega.{arith}
-use Rattle.least_squares.specs.Lm.{gramAt, sumFrom}
+use Rattle.least_squares.specs.Lm.{gramAt}
+use Rattle.numbers.specs.Sum.{sumFrom}
 use native.Mathlib.Numerals.{add-one}
 use mathlib.Core.Path.{_≡_, refl}
 use Prim.Native.Nat.{_≤_, _-_}

@@ -1,7 +1,9 @@
 -- `least_squares::lm::norm2` meets its contract. Assumes nothing.
 use native.Mathlib.Omega.{arith}
-use Rattle.least_squares.specs.Lm.{norm2, sumFrom}
+use Rattle.least_squares.specs.Lm.{norm2}
 use Rattle.numbers.specs.Double.{zero64}
+use Rattle.numbers.specs.Ops.{doubles}
+use Rattle.numbers.specs.Sum.{sumFrom}
 use lib.Ieee.{nan, binary64, mul, neg}
 use lib.ListN.{length, getD}
 use native.Mathlib.Numerals.{add-one}
@@ -11,7 +13,7 @@ use Rattle.least_squares.proofs.lm.norm2.Statement.{statement}
 use Rattle.least_squares.proofs.lm.norm2.Tie as tie
 
 abbrev Inv-loop : tie.InvT-loop
-Inv-loop v t₀ i₀ i-end t i = (i ≤ length v) × (i-end ≡ length v) × (t ≡ sumFrom (neg zero64) (λ i. mul binary64 (getD v i nan) (getD v i nan)) i)
+Inv-loop v t₀ i₀ i-end t i = (i ≤ length v) × (i-end ≡ length v) × (t ≡ sumFrom doubles (neg zero64) (λ i. mul binary64 (getD v i nan) (getD v i nan)) i)
 
 abbrev μ-loop : tie.MeasureT-loop
 μ-loop v t₀ i₀ i-end t i = length v - i

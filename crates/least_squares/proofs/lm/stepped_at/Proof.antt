@@ -1,8 +1,9 @@
 -- `least_squares::lm::stepped_at` meets its contract. Assumes nothing.
 use Rattle.least_squares.proofs.LmLaws.{columnTerm, stepped-is}
 use Rattle.least_squares.proofs.TableLaws.{in-rows}
-use Rattle.least_squares.specs.Lm.{sumFrom}
 use Rattle.numbers.specs.Double.{zero64}
+use Rattle.numbers.specs.Ops.{doubles}
+use Rattle.numbers.specs.Sum.{sumFrom}
 use native.Mathlib.Numerals.{add-one}
 use native.Mathlib.Omega.{arith}
 use mathlib.Core.Path.{_≡_, refl, sym, _∙_}
@@ -11,7 +12,7 @@ use Rattle.least_squares.proofs.lm.stepped_at.Statement.{statement}
 use Rattle.least_squares.proofs.lm.stepped_at.Tie as tie
 
 abbrev Inv-loop : tie.InvT-loop
-Inv-loop s n rows x j w y c t₀ i₀ t i = (i ≤ rows) × (t ≡ sumFrom zero64 (columnTerm s j n y c) i)
+Inv-loop s n rows x j w y c t₀ i₀ t i = (i ≤ rows) × (t ≡ sumFrom doubles zero64 (columnTerm s j n y c) i)
 
 abbrev μ-loop : tie.MeasureT-loop
 μ-loop s n rows x j w y c t₀ i₀ t i = rows - i
