@@ -4,7 +4,6 @@ use mathlib.Core.Path.{_≡_, refl, sym, _∙_}
 use mathlib.Core.Bool.{Bool, true, false, _&&_, cond}
 use mathlib.Core.List.{List}
 use mathlib.Core.Logic.{⊎-elim}
-use mathlib.Core.Option.{none, some}
 use Prim.Native.Nat.{ℕ, zero, suc, _+_, _*_, _<_, _≤_}
 use native.Mathlib.Nat.{add-assoc, eq-or-lt-of-le, le-of-suc-le-suc}
 use native.Mathlib.Omega.{arith}
@@ -15,11 +14,15 @@ use lib.Ieee.Bits.{toBits-ofBits}
 use borrow.Author.Tests.{leb-true, eqb-true, eq-eqb}
 use Rattle.numbers.specs.Double.{abs}
 use Rattle.vectors.specs.Vec.{Vec}
-use Rattle.records.specs.Record.{byteAt, u16At, u64At, doubleAt, vecAt, usesJoint, usesFlag, usesPlane, GROUND, bodyNumberAt, primAt, jointKindAt, bodyAt, endAt, lawBy, relAt}
+use Rattle.relations.specs.declared.model.JointKind.the-variants.{Ball}
+use Rattle.records.specs.Numbers.{JOINT, SYMMETRY, CIRCLE, lawNumber, jointNumber, primNumber, flagNumber, placeNumber}
+use Rattle.records.specs.Record.{byteAt, u16At, u64At, doubleAt, vecAt, usesJoint, usesFlag, usesPlane, bodyNumberAt, primAt, bodyAt, endAt, lawBy, relAt}
+use Rattle.records.proofs.NumberLaws.{each-case}
+use Rattle.records.proofs.RecordLaws.{prim-number, kind-number, law-number}
 use Rattle.format.specs.Format.{bodiesOf, relationsOf, bodyStart, relStart}
 use Rattle.format.specs.Faults.{orElse, byteUpTo, within, withinV, THOUSAND, NEAR-ONE, bodyShape, bodyLimits, endShape, endLimits, planeShape, relShape, relNames, relLimits, bodyFault, relFault, headerFault, bodiesFault, relsFault, sheetFault}
 use Rattle.format.proofs.RefusalLaws.{none-of}
-use Rattle.format.specs.Fields.{flagByte, primByte, jointByte, lawByte, bodyWord, DoubleBack, VecBack, BodyBack, PrimBack, EndBack, LawBack, RelBack}
+use Rattle.format.specs.Fields.{DoubleBack, VecBack, BodyBack, PrimBack, EndBack, LawBack, RelBack}
 
 -- every element is a byte
 abbrev pub Bytes : List ℕ → Type 0
@@ -64,28 +67,14 @@ unfolding byteUpTo
 up-to true most b h = leb-true b most h
 up-to false most b h = omega (arith, eqb-true b 0 h)
 
-flag-back : (n : ℕ) → n ≤ 1 → flagByte (eqb n 1) ≡ n
+flag-back : (n : ℕ) → n ≤ flagNumber true → flagNumber (eqb n (flagNumber true)) ≡ n
 flag-back zero h = refl
 flag-back (suc zero) h = refl
 flag-back (suc (suc n)) h = absurd (omega arith)
 
-word-by : (t : Bool) (b : ℕ) → (t ≡ true → b ≡ GROUND) → bodyWord (cond t none (some b)) ≡ b
-word-by true b h = sym (h refl)
-word-by false b h = refl
-
-word-back : (b : ℕ) → bodyWord (bodyNumberAt b) ≡ b
+place-back : (b : ℕ) → placeNumber (bodyNumberAt b) ≡ b
 unfolding bodyNumberAt
-word-back b = word-by (eqb b GROUND) b (eqb-true b GROUND)
-
-joint-back : (n : ℕ) → n ≤ 5 → jointByte (jointKindAt n) ≡ n
-unfolding jointKindAt
-joint-back zero h = refl
-joint-back (suc zero) h = refl
-joint-back (suc (suc zero)) h = refl
-joint-back (suc (suc (suc zero))) h = refl
-joint-back (suc (suc (suc (suc zero)))) h = refl
-joint-back (suc (suc (suc (suc (suc zero))))) h = refl
-joint-back (suc (suc (suc (suc (suc (suc n)))))) h = absurd (omega arith)
+place-back b = each-case placeNumber b (λ p. placeNumber p ≡ b) _ _ ((λ q. sym q), refl)
 
 -- ---- bodies
 
@@ -98,7 +87,7 @@ body-of : (s : List ℕ) (o : ℕ) → Bytes s → bodyShape s o ≡ true → bo
 unfolding bodyShape bodyLimits bodyAt
 body-of s o b shape limits =
     record {
-      fixed = flag-back (byteAt s o) (leb-true (byteAt s o) 1 (search (and-left, and-right)));
+      fixed = flag-back (byteAt s o) (leb-true (byteAt s o) (flagNumber true) (search (and-left, and-right)));
       origin = vec-back s (o + 8) THOUSAND b (search (and-left, and-right));
       x = rw (add-assoc o 8 24) (vec-back s (o + 32) NEAR-ONE b (search (and-left, and-right)));
       y = rw (add-assoc o 8 48) (vec-back s (o + 56) NEAR-ONE b (search (and-left, and-right)));
@@ -113,28 +102,17 @@ body-back s o b h = let p = two (bodyShape s o) (bodyLimits s o) h in body-of s 
 
 -- ---- ends
 
-prim-number : (n : ℕ) (p d : Vec Float) (r : Float) → n ≤ 3 → primByte (primAt n p d r) ≡ n
-unfolding primAt
-prim-number zero p d r h = refl
-prim-number (suc zero) p d r h = refl
-prim-number (suc (suc zero)) p d r h = refl
-prim-number (suc (suc (suc zero))) p d r h = refl
-prim-number (suc (suc (suc (suc n)))) p d r h = absurd (omega arith)
-
 prim-back : (s : List ℕ) (e n : ℕ) (p d : Vec Float) (r : Float) → VecBack s (e + 8) p → VecBack s (e + 32) d → DoubleBack s (e + 56) r → PrimBack s e (primAt n p d r)
 unfolding primAt
-prim-back s e zero p d r x y z = (x, y)
-prim-back s e (suc zero) p d r x y z = (x, y)
-prim-back s e (suc (suc zero)) p d r x y z = x
-prim-back s e (suc (suc (suc n))) p d r x y z = (x, (y, z))
+prim-back s e n p d r x y z = each-case primNumber n (λ g. PrimBack s e g) _ _ ((λ q. (x, y)), ((λ q. (x, y)), ((λ q. x), (x, (y, z)))))
 
 end-back : (law : ℕ) (s : List ℕ) (e : ℕ) → Bytes s → endShape law s e ≡ true → endLimits s e ≡ true → EndBack s e (endAt s e)
 unfolding endShape endLimits endAt
 end-back law s e b shape limits =
     record {
-      kind = prim-number (byteAt s e) _ _ _ (leb-true (byteAt s e) 3 (search (and-left, and-right)));
-      mirrored = flag-back (byteAt s (e + 1)) (up-to (usesJoint law) 1 (byteAt s (e + 1)) (search (and-left, and-right)));
-      body = word-back (u16At s (e + 2));
+      kind = prim-number (byteAt s e) _ _ _ (leb-true (byteAt s e) CIRCLE (search (and-left, and-right)));
+      mirrored = flag-back (byteAt s (e + 1)) (up-to (usesJoint law) (flagNumber true) (byteAt s (e + 1)) (search (and-left, and-right)));
+      body = place-back (u16At s (e + 2));
       prim =
           prim-back s e (byteAt s e) (vecAt s (e + 8)) (vecAt s (e + 32)) (doubleAt s (e + 56)) (vec-back s (e + 8) THOUSAND b (search (and-left, and-right)))
           (vec-back s (e + 32) NEAR-ONE b (search (and-left, and-right))) (double-back s (e + 56) THOUSAND b (search (and-left, and-right)));
@@ -143,40 +121,28 @@ end-back law s e b shape limits =
 
 -- ---- relations
 
-law-number : (n : ℕ) (s : List ℕ) (r : ℕ) → n ≤ 6 → lawByte (lawBy n s r) ≡ n
+law-back : (n : ℕ) (s : List ℕ) (r : ℕ) → byteAt s (r + 1) ≤ jointNumber Ball → byteAt s (r + 2) ≤ flagNumber true → DoubleBack s (r + 8) (doubleAt s (r + 8))
+    → DoubleBack s (r + 16) (doubleAt s (r + 16)) → VecBack s (r + 24) (vecAt s (r + 24)) → (n ≡ SYMMETRY → EndBack s (r + 192) (endAt s (r + 192)))
+    → LawBack s r (lawBy n s r)
 unfolding lawBy
-law-number zero s r h = refl
-law-number (suc zero) s r h = refl
-law-number (suc (suc zero)) s r h = refl
-law-number (suc (suc (suc zero))) s r h = refl
-law-number (suc (suc (suc (suc zero)))) s r h = refl
-law-number (suc (suc (suc (suc (suc zero))))) s r h = refl
-law-number (suc (suc (suc (suc (suc (suc zero)))))) s r h = refl
-law-number (suc (suc (suc (suc (suc (suc (suc n))))))) s r h = absurd (omega arith)
+law-back n s r j f off want v plane =
+    let flag = flag-back (byteAt s (r + 2)) f in
+    each-case lawNumber n (λ l. LawBack s r l) _ _
+    ((λ q. off), ((λ q. off), ((λ q. (want, v)), ((λ q. (off, flag)), ((λ q. (off, flag)), (plane, (kind-number (byteAt s (r + 1)) j, (flag, (off, want)))))))))
 
-law-back : (n : ℕ) (s : List ℕ) (r : ℕ) → byteAt s (r + 1) ≤ 5 → byteAt s (r + 2) ≤ 1 → DoubleBack s (r + 8) (doubleAt s (r + 8)) → DoubleBack s (r + 16) (doubleAt s (r + 16))
-    → VecBack s (r + 24) (vecAt s (r + 24)) → (n ≡ 5 → EndBack s (r + 192) (endAt s (r + 192))) → LawBack s r (lawBy n s r)
-unfolding lawBy
-law-back zero s r j f off want v plane = off
-law-back (suc zero) s r j f off want v plane = off
-law-back (suc (suc zero)) s r j f off want v plane = (want, v)
-law-back (suc (suc (suc zero))) s r j f off want v plane = (off, flag-back _ f)
-law-back (suc (suc (suc (suc zero)))) s r j f off want v plane = (off, flag-back _ f)
-law-back (suc (suc (suc (suc (suc zero))))) s r j f off want v plane = plane refl
-law-back (suc (suc (suc (suc (suc (suc n)))))) s r j f off want v plane = (joint-back _ j, (flag-back _ f, (off, want)))
-
-plane-used : (law : ℕ) (s : List ℕ) (e : ℕ) → planeShape law s e ≡ true → law ≡ 5 → endShape law s e ≡ true
+plane-used : (law : ℕ) (s : List ℕ) (e : ℕ) → planeShape law s e ≡ true → law ≡ SYMMETRY → endShape law s e ≡ true
 unfolding planeShape
-plane-used law s e h p = rw (eq-eqb law 5 p) at h
+plane-used law s e h p = rw (eq-eqb law SYMMETRY p) at h
 
 rel-of : (s : List ℕ) (r : ℕ) → Bytes s → relShape s r ≡ true → relLimits s r ≡ true → RelBack s r (relAt s r)
 unfolding relShape relLimits relAt
 rel-of s r b shape limits =
     let law = byteAt s r in
     record {
-      number = law-number law s r (leb-true law 6 (search (and-left, and-right) depth 12));
+      number = law-number law s r (leb-true law JOINT (search (and-left, and-right) depth 12));
       law =
-          law-back law s r (up-to (usesJoint law) 5 (byteAt s (r + 1)) (search (and-left, and-right) depth 12)) (up-to (usesFlag law) 1 (byteAt s (r + 2)) (search (and-left, and-right) depth 12))
+          law-back law s r (up-to (usesJoint law) (jointNumber Ball) (byteAt s (r + 1)) (search (and-left, and-right) depth 12))
+          (up-to (usesFlag law) (flagNumber true) (byteAt s (r + 2)) (search (and-left, and-right) depth 12))
           (double-back s (r + 8) THOUSAND b (search (and-left, and-right) depth 12)) (double-back s (r + 16) THOUSAND b (search (and-left, and-right) depth 12))
           (vec-back s (r + 24) NEAR-ONE b (search (and-left, and-right) depth 12))
           (λ p. end-back law s (r + 192) b (plane-used law s (r + 192) (search (and-left, and-right) depth 12) p) (search (and-left, and-right) depth 12));

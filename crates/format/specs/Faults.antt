@@ -1,14 +1,16 @@
 -- Which number a sheet gives, or 0 for none, for any bytes. Document 01, "What a call says", the table of refusals: tests 1 to 4, then each record in order by 5, 6, 7.
 -- Definitions only.
 use Prim.Native.Nat.{ℕ, zero, suc, _+_}
-use mathlib.Core.Bool.{Bool, not, _&&_, _||_, cond}
+use mathlib.Core.Bool.{Bool, true, not, _&&_, _||_, cond}
 use mathlib.Core.List.{List}
 use lib.ListN.{length}
 use lib.Dec.{eqb, leb, ltb}
 use lib.Ieee.{Float, binary64, le, ofBits}
 use Rattle.numbers.specs.Double.{abs}
 use Rattle.vectors.specs.Vec.{Vec}
-use Rattle.records.specs.Record.{byteAt, u16At, u32At, doubleAt, vecAt, zeroBytes, usesOffset, usesAngle, usesReference, usesFlag, usesJoint, usesEndRadius, usesPlane, usesDirection, usesCircleRadius, GROUND}
+use Rattle.relations.specs.declared.model.JointKind.the-variants.{Ball}
+use Rattle.records.specs.Numbers.{JOINT, CIRCLE, jointNumber, flagNumber, GROUND}
+use Rattle.records.specs.Record.{byteAt, u16At, u32At, doubleAt, vecAt, zeroBytes, usesOffset, usesAngle, usesReference, usesFlag, usesJoint, usesEndRadius, usesPlane, usesDirection, usesCircleRadius}
 use Rattle.format.specs.Format.{bodiesOf, relationsOf, bodyStart, relStart}
 
 -- the first of two tests' numbers that is not 0; the second is asked only where the first gives 0
@@ -37,7 +39,7 @@ unfoldable pub headerFault : List ℕ → ℕ
 headerFault s =
     cond (leb 24 (length s)) (cond (headerZeros s) (cond (headerCounts s) (unless (headerOffsets s) 4) 3) 2) 1
 
--- ---- 5: bytes within their values, unused fields 0
+-- ---- 5: bytes within their values, up to the number of the last case; unused fields 0
 
 -- a byte that is up to `most` where it is used, and 0 else
 unfoldable pub byteUpTo : Bool → ℕ → ℕ → Bool
@@ -48,12 +50,12 @@ unfoldable pub usedOrZero : Bool → List ℕ → ℕ → ℕ → Bool
 usedOrZero used s o n = used || zeroBytes s o n
 
 unfoldable pub bodyShape : List ℕ → ℕ → Bool
-bodyShape s o = leb (byteAt s o) 1 && zeroBytes s (o + 1) 7
+bodyShape s o = leb (byteAt s o) (flagNumber true) && zeroBytes s (o + 1) 7
 
 unfoldable pub endShape : ℕ → List ℕ → ℕ → Bool
 endShape law s e =
-    leb (byteAt s e) 3
-    && (byteUpTo (usesJoint law) 1 (byteAt s (e + 1))
+    leb (byteAt s e) CIRCLE
+    && (byteUpTo (usesJoint law) (flagNumber true) (byteAt s (e + 1))
     && (zeroBytes s (e + 4) 4
     && (usedOrZero (usesDirection (byteAt s e)) s (e + 32) 24 && (usedOrZero (usesCircleRadius (byteAt s e)) s (e + 56) 8 && usedOrZero (usesEndRadius law) s (e + 64) 8))))
 
@@ -64,9 +66,9 @@ planeShape law s e = cond (usesPlane law) (endShape law s e) (zeroBytes s e 72)
 unfoldable pub relShape : List ℕ → ℕ → Bool
 relShape s r =
     let law = byteAt s r in
-    leb law 6
-    && (byteUpTo (usesJoint law) 5 (byteAt s (r + 1))
-    && (byteUpTo (usesFlag law) 1 (byteAt s (r + 2))
+    leb law JOINT
+    && (byteUpTo (usesJoint law) (jointNumber Ball) (byteAt s (r + 1))
+    && (byteUpTo (usesFlag law) (flagNumber true) (byteAt s (r + 2))
     && (zeroBytes s (r + 3) 5
     && (usedOrZero (usesOffset law) s (r + 8) 8
     && (usedOrZero (usesAngle law) s (r + 16) 8

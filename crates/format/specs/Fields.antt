@@ -1,48 +1,14 @@
--- Which bytes a body and a relation give back: each byte and number by its table, and the bits of each double that is used. Document 01, "The sheet". Definitions only.
+-- Which bytes a body and a relation give back: each byte and body by the number of its case, and the bits of each double that is used. Document 01, "The sheet".
+-- Definitions only.
 use Prim.Native.Nat.{ℕ, _+_}
 use mathlib.Core.Path.{_≡_}
-use mathlib.Core.Bool.{Bool, cond}
 use mathlib.Core.List.{List}
-use mathlib.Core.Option.{Option, none, some}
 use lib.Ieee.{Float, binary64, toBits}
 use Rattle.vectors.specs.Vec.{Vec}
 use Rattle.relations.specs.Geometry.{Geo, plane, line, point, circle}
 use Rattle.relations.specs.Model.{Body, End, Law, mate, flush, angle, insert, tangent, symmetry, joint, Rel}
-use Rattle.records.specs.Record.{byteAt, u16At, u64At, GROUND}
-use Rattle.relations.specs.declared.model.JointKind.{JointKind}
-use Rattle.relations.specs.declared.model.JointKind.the-variants.{Rigid, Revolute, Slider, Cylindrical, Planar, Ball}
-
--- ---- the tables, from the value to its number
-
-abbrev pub flagByte : Bool → ℕ
-flagByte b = cond b 1 0
-
-abbrev pub primByte : Geo Float → ℕ
-primByte (plane p n) = 0
-primByte (line p d) = 1
-primByte (point p) = 2
-primByte (circle c n r) = 3
-
-abbrev pub jointByte : JointKind → ℕ
-jointByte Rigid = 0
-jointByte Revolute = 1
-jointByte Slider = 2
-jointByte Cylindrical = 3
-jointByte Planar = 4
-jointByte Ball = 5
-
-abbrev pub lawByte : Law → ℕ
-lawByte (mate off) = 0
-lawByte (flush off) = 1
-lawByte (angle want reference) = 2
-lawByte (insert off aligned) = 3
-lawByte (tangent off inside) = 4
-lawByte (symmetry p) = 5
-lawByte (joint kind flip off want) = 6
-
-abbrev pub bodyWord : Option ℕ → ℕ
-bodyWord none = GROUND
-bodyWord (some i) = i
+use Rattle.records.specs.Numbers.{lawNumber, jointNumber, primNumber, flagNumber, placeNumber}
+use Rattle.records.specs.Record.{byteAt, u16At, u64At}
 
 -- ---- the bits at place o
 
@@ -55,7 +21,7 @@ pub record VecBack (s : List ℕ) (o : ℕ) (v : Vec Float) : Type 0 where
   pub z : DoubleBack s (o + 16) (v .z)
 
 pub record BodyBack (s : List ℕ) (o : ℕ) (b : Body) : Type 0 where
-  pub fixed : flagByte (b .fixed) ≡ byteAt s o
+  pub fixed : flagNumber (b .fixed) ≡ byteAt s o
   pub origin : VecBack s (o + 8) (b .frame .origin)
   pub x : VecBack s (o + 32) (b .frame .x)
   pub y : VecBack s (o + 56) (b .frame .y)
@@ -71,9 +37,9 @@ PrimBack s e (point p) = VecBack s (e + 8) p
 PrimBack s e (circle c n r) = VecBack s (e + 8) c × (VecBack s (e + 32) n × DoubleBack s (e + 56) r)
 
 pub record EndBack (s : List ℕ) (e : ℕ) (a : End) : Type 0 where
-  pub kind : primByte (a .prim) ≡ byteAt s e
-  pub mirrored : flagByte (a .mirrored) ≡ byteAt s (e + 1)
-  pub body : bodyWord (a .body) ≡ u16At s (e + 2)
+  pub kind : primNumber (a .prim) ≡ byteAt s e
+  pub mirrored : flagNumber (a .mirrored) ≡ byteAt s (e + 1)
+  pub body : placeNumber (a .body) ≡ u16At s (e + 2)
   pub prim : PrimBack s e (a .prim)
   pub radius : DoubleBack s (e + 64) (a .radius)
 
@@ -82,15 +48,15 @@ abbrev pub LawBack : List ℕ → ℕ → Law → Type 0
 LawBack s r (mate off) = DoubleBack s (r + 8) off
 LawBack s r (flush off) = DoubleBack s (r + 8) off
 LawBack s r (angle want reference) = DoubleBack s (r + 16) want × VecBack s (r + 24) reference
-LawBack s r (insert off aligned) = DoubleBack s (r + 8) off × (flagByte aligned ≡ byteAt s (r + 2))
-LawBack s r (tangent off inside) = DoubleBack s (r + 8) off × (flagByte inside ≡ byteAt s (r + 2))
+LawBack s r (insert off aligned) = DoubleBack s (r + 8) off × (flagNumber aligned ≡ byteAt s (r + 2))
+LawBack s r (tangent off inside) = DoubleBack s (r + 8) off × (flagNumber inside ≡ byteAt s (r + 2))
 LawBack s r (symmetry p) = EndBack s (r + 192) p
 LawBack s r (joint kind flip off want) =
-    (jointByte kind ≡ byteAt s (r + 1))
-    × ((flagByte flip ≡ byteAt s (r + 2)) × (DoubleBack s (r + 8) off × DoubleBack s (r + 16) want))
+    (jointNumber kind ≡ byteAt s (r + 1))
+    × ((flagNumber flip ≡ byteAt s (r + 2)) × (DoubleBack s (r + 8) off × DoubleBack s (r + 16) want))
 
 pub record RelBack (s : List ℕ) (r : ℕ) (rel : Rel) : Type 0 where
-  pub number : lawByte (rel .law) ≡ byteAt s r
+  pub number : lawNumber (rel .law) ≡ byteAt s r
   pub law : LawBack s r (rel .law)
   pub a : EndBack s (r + 48) (rel .a)
   pub b : EndBack s (r + 120) (rel .b)

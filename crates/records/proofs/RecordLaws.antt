@@ -1,11 +1,10 @@
--- A bit pattern is a NaN's or not by one comparison, and the last case of each table by number. Assumes nothing.
+-- A bit pattern is a NaN's or not by one comparison; what the tables by number give for a byte. Assumes nothing.
 use mathlib.Core.Path.{_≡_, refl, sym, subst, _∙_}
 use mathlib.Core.Bool.{Bool, true, false, not}
 use mathlib.Core.List.{List}
-use Prim.Native.Nat.{ℕ, zero, suc, _+_, _-_, _<_, _≤_, _%_}
-use native.Mathlib.Nat.{not-suc-le-zero, le-of-suc-le-suc}
+use Prim.Native.Nat.{ℕ, _+_, _<_, _≤_, _%_}
 use native.Mathlib.Omega.{arith}
-use lib.Dec.{T, eqb}
+use lib.Dec.{T}
 use lib.Ieee.{Float, nan, inf, fin, binary64, isNan, nanBits, ofBits}
 use lib.Ieee.Bits.{nanBits-above, nanBits-is}
 use borrow.Author.Tests.{lt-ltb, le-ltb}
@@ -13,8 +12,10 @@ use Rattle.numbers.specs.DoubleLaws.{nan-only}
 use Rattle.vectors.specs.Vec.{Vec}
 use Rattle.relations.specs.Geometry.{circle}
 use Rattle.relations.specs.Model.{joint}
-use Rattle.records.specs.Record.{primAt, jointKindAt, lawBy, byteAt, doubleAt}
 use Rattle.relations.specs.declared.model.JointKind.the-variants.{Ball}
+use Rattle.records.specs.Numbers.{CIRCLE, JOINT, primNumber, jointNumber, lawNumber}
+use Rattle.records.specs.Record.{primAt, jointKindAt, lawBy, byteAt, flagAt, doubleAt}
+use Rattle.records.proofs.NumberLaws.{number-back, last-case}
 
 pub no-nan-bits : (n : ℕ) → n % 0x8000_0000_0000_0000 ≤ 0x7FF0_0000_0000_0000 → T (not (nanBits binary64 n))
 no-nan-bits n h = subst (λ (t : Bool). T (not t)) (sym (nanBits-above binary64 n ∙ le-ltb _ _ h)) tt
@@ -22,24 +23,29 @@ no-nan-bits n h = subst (λ (t : Bool). T (not t)) (sym (nanBits-above binary64 
 pub nan-bits : (n : ℕ) → 0x7FF0_0000_0000_0000 < n % 0x8000_0000_0000_0000 → ofBits binary64 n ≡ nan
 nan-bits n h = nan-only (ofBits binary64 n) (sym (nanBits-is binary64 n) ∙ nanBits-above binary64 n ∙ lt-ltb _ _ h)
 
-pub last-prim : (n : ℕ) (p d : Vec Float) (r : Float) → 3 ≤ n → primAt n p d r ≡ circle p d r
+-- ---- a byte of each table gives its own number back; from the last number on, the last case
+
+pub prim-number : (n : ℕ) (p d : Vec Float) (r : Float) → n ≤ CIRCLE → primNumber (primAt n p d r) ≡ n
 unfolding primAt
-last-prim zero p d r h = absurd (not-suc-le-zero h)
-last-prim (suc zero) p d r h = absurd (not-suc-le-zero (le-of-suc-le-suc h))
-last-prim (suc (suc zero)) p d r h = absurd (not-suc-le-zero (le-of-suc-le-suc (le-of-suc-le-suc h)))
-last-prim (suc (suc (suc n))) p d r h = refl
+prim-number n p d r h = number-back primNumber n 0 _ _ (refl, (refl, (refl, refl))) (omega arith) h
 
-drop5 : (n : ℕ) → 5 ≤ n → (k : ℕ) × (n ≡ suc (suc (suc (suc (suc k)))))
-drop5 n h = (n - 5, omega arith)
+pub last-prim : (n : ℕ) (p d : Vec Float) (r : Float) → CIRCLE ≤ n → primAt n p d r ≡ circle p d r
+unfolding primAt
+last-prim n p d r h = last-case primNumber n 0 _ _ (refl, (refl, (refl, refl))) h
 
-pub last-kind : (n : ℕ) → 5 ≤ n → jointKindAt n ≡ Ball
+pub kind-number : (n : ℕ) → n ≤ jointNumber Ball → jointNumber (jointKindAt n) ≡ n
 unfolding jointKindAt
-last-kind n h = rw (drop5 n h .1)
+kind-number n h = number-back jointNumber n 0 _ _ (refl, (refl, (refl, (refl, (refl, refl))))) (omega arith) h
 
-drop6 : (n : ℕ) → 6 ≤ n → (k : ℕ) × (n ≡ suc (suc (suc (suc (suc (suc k))))))
-drop6 n h = (n - 6, omega arith)
+pub last-kind : (n : ℕ) → jointNumber Ball ≤ n → jointKindAt n ≡ Ball
+unfolding jointKindAt
+last-kind n h = last-case jointNumber n 0 _ _ (refl, (refl, (refl, (refl, (refl, refl))))) h
 
-pub last-law : (n : ℕ) (s : List ℕ) (r : ℕ) → 6 ≤ n
-    → lawBy n s r ≡ joint (jointKindAt (byteAt s (r + 1))) (eqb (byteAt s (r + 2)) 1) (doubleAt s (r + 8)) (doubleAt s (r + 16))
+pub law-number : (n : ℕ) (s : List ℕ) (r : ℕ) → n ≤ JOINT → lawNumber (lawBy n s r) ≡ n
 unfolding lawBy
-last-law n s r h = rw (drop6 n h .1)
+law-number n s r h = number-back lawNumber n 0 _ _ (refl, (refl, (refl, (refl, (refl, (refl, refl)))))) (omega arith) h
+
+pub last-law : (n : ℕ) (s : List ℕ) (r : ℕ) → JOINT ≤ n
+    → lawBy n s r ≡ joint (jointKindAt (byteAt s (r + 1))) (flagAt s (r + 2)) (doubleAt s (r + 8)) (doubleAt s (r + 16))
+unfolding lawBy
+last-law n s r h = last-case lawNumber n 0 _ _ (refl, (refl, (refl, (refl, (refl, (refl, refl)))))) h

@@ -5,7 +5,7 @@ use mathlib.Core.List.{List}
 use Prim.Native.Nat.{ℕ, _*_, _<_, _≤_}
 use lib.Dec.{leb}
 use borrow.Author.Tests.{lt-ltb, le-ltb, le-leb, lt-leb, eq-eqb, ne-eqb}
-use Rattle.records.specs.Record.{GROUND}
+use Rattle.records.specs.Numbers.{GROUND}
 use Rattle.format.specs.Format.{bodiesOf, relationsOf}
 use Rattle.format.specs.Faults.{orElse, unless, sheetFault}
 use Rattle.refusals.specs.Refusals.{dragFault, solveScratch, solveFault, dofScratch, dofFault}

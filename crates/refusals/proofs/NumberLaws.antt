@@ -5,7 +5,7 @@ use Prim.Native.Nat.{ℕ, zero, suc, _*_, _≤_}
 use native.Mathlib.Omega.{arith}
 use lib.ListN.{length}
 use lib.Dec.{eqb, leb, ltb}
-use Rattle.records.specs.Record.{GROUND}
+use Rattle.records.specs.Numbers.{GROUND}
 use Rattle.format.specs.Format.{bodiesOf, relationsOf, bodyStart, relStart}
 use Rattle.format.specs.Faults.{orElse, unless, headerZeros, headerCounts, headerOffsets, headerFault, bodyShape, bodyLimits, bodyFault, relShape, relNames, relLimits, relFault, bodiesFault, relsFault, sheetFault}
 use Rattle.refusals.specs.Refusals.{dragFault, solveScratch, solveFault, dofScratch, dofFault}

@@ -8,7 +8,8 @@ use lib.Dec.{eqb, leb, ltb}
 use Rattle.judging.specs.Judge.{judge}
 use Rattle.least_squares.specs.Lm.{listOf}
 use Rattle.scene.specs.Solve.{Scene, unknowns, rowsOf, startAt}
-use Rattle.records.specs.Record.{GROUND, relAt}
+use Rattle.records.specs.Numbers.{GROUND}
+use Rattle.records.specs.Record.{relAt}
 use Rattle.format.specs.Format.{bodiesOf, relationsOf, relStart}
 use Rattle.format.specs.Faults.{orElse, unless, sheetFault}
 use Rattle.refusals.specs.SceneAt.{sceneAt}

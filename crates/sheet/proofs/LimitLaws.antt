@@ -13,7 +13,9 @@ use lib.Ieee.Bits.{is-true}
 use lib.Ieee.Fits.{and-l, and-r}
 use Rattle.vectors.specs.Vec.{Vec}
 use Rattle.relations.specs.Model.{Rel}
+use Rattle.records.specs.Numbers.{lawNumber, primNumber}
 use Rattle.records.specs.Record.{byteAt, doubleAt, vecAt, primAt, endAt, lawBy, relAt}
+use Rattle.records.proofs.NumberLaws.{each-case}
 use Rattle.scene.specs.Scene.{sceneIn}
 use Rattle.closeness.specs.RowBound.{SHEET-LIMIT, UNIT-LIMIT, upTo, upToV, smallGeo, smallEnd, smallLaw, smallRel}
 use Rattle.least_squares.proofs.TableLaws.{length-listOf, getD-listOf}
@@ -38,10 +40,10 @@ vector-small limit v t = t
 
 prim-small : (n : ℕ) (p d : Vec Float) (r : Float) → T (upToV SHEET-LIMIT p) → T (upToV UNIT-LIMIT d) → T (upTo SHEET-LIMIT r) → T (smallGeo (primAt n p d r))
 unfolding primAt smallGeo
-prim-small zero p d r h k l = both (upToV SHEET-LIMIT p) (upToV UNIT-LIMIT d) h k
-prim-small (suc zero) p d r h k l = both (upToV SHEET-LIMIT p) (upToV UNIT-LIMIT d) h k
-prim-small (suc (suc zero)) p d r h k l = h
-prim-small (suc (suc (suc n))) p d r h k l = both (upToV SHEET-LIMIT p) _ h (both (upToV UNIT-LIMIT d) (upTo SHEET-LIMIT r) k l)
+prim-small n p d r h k l =
+    let two = both (upToV SHEET-LIMIT p) (upToV UNIT-LIMIT d) h k in
+    let three = both (upToV SHEET-LIMIT p) _ h (both (upToV UNIT-LIMIT d) (upTo SHEET-LIMIT r) k l) in
+    each-case primNumber n (λ g. T (smallGeo g)) _ _ ((λ q. two), ((λ q. two), ((λ q. h), three)))
 
 end-small : (s : List ℕ) (e : ℕ) → T (endLimits s e) → T (smallEnd (endAt s e))
 unfolding endLimits smallEnd endAt
@@ -58,13 +60,10 @@ module _ (s : List ℕ) (r : ℕ) where
   law-small : (n : ℕ) → T (upTo SHEET-LIMIT (doubleAt s (r + 8))) → T (upTo SHEET-LIMIT (doubleAt s (r + 16))) → T (upToV UNIT-LIMIT (vecAt s (r + 24))) → T (smallEnd (endAt s (r + 192)))
       → T (smallLaw (lawBy n s r))
   unfolding lawBy smallLaw
-  law-small zero off want reference p = off
-  law-small (suc zero) off want reference p = off
-  law-small (suc (suc zero)) off want reference p = both (upTo SHEET-LIMIT (doubleAt s (r + 16))) (upToV UNIT-LIMIT (vecAt s (r + 24))) want reference
-  law-small (suc (suc (suc zero))) off want reference p = off
-  law-small (suc (suc (suc (suc zero)))) off want reference p = off
-  law-small (suc (suc (suc (suc (suc zero))))) off want reference p = p
-  law-small (suc (suc (suc (suc (suc (suc n)))))) off want reference p = both (upTo SHEET-LIMIT (doubleAt s (r + 8))) (upTo SHEET-LIMIT (doubleAt s (r + 16))) off want
+  law-small n off want reference p =
+      let turned = both (upTo SHEET-LIMIT (doubleAt s (r + 16))) (upToV UNIT-LIMIT (vecAt s (r + 24))) want reference in
+      let joined = both (upTo SHEET-LIMIT (doubleAt s (r + 8))) (upTo SHEET-LIMIT (doubleAt s (r + 16))) off want in
+      each-case lawNumber n (λ l. T (smallLaw l)) _ _ ((λ q. off), ((λ q. off), ((λ q. turned), ((λ q. off), ((λ q. off), ((λ q. p), joined))))))
 
   pub rel-small : relLimits s r ≡ true → smallRel (relAt s r) ≡ true
   unfolding relLimits smallRel relAt

@@ -10,7 +10,7 @@ use lib.ListN.{length}
 use lib.Dec.{leb}
 use lib.Ieee.{Float}
 use borrow.Author.Tests.{leb-true, eq-eqb, ne-eqb}
-use Rattle.records.specs.Record.{GROUND}
+use Rattle.records.specs.Numbers.{GROUND}
 use Rattle.scene.specs.Scene.{Laid, SceneMade, sceneOf}
 use Rattle.scene.specs.declared.scene.Scene.{Scene as SceneStruct}
 use Rattle.placement.specs.Answer.{Filled}

@@ -8,7 +8,7 @@ use mathlib.Core.Option.{Option, none, some}
 use lib.ListN.{length, drop}
 use lib.Dec.{eqb}
 use lib.Ieee.{Float}
-use Rattle.records.specs.Record.{GROUND}
+use Rattle.records.specs.Numbers.{GROUND}
 use Rattle.scene.specs.Scene.{posesDoubles}
 use Rattle.scene.specs.Solve.{Solution, MAX-ITER, solve}
 use Rattle.placement.specs.Answer.{framesDoubles}

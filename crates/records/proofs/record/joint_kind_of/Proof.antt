@@ -1,4 +1,5 @@
 -- `records::record::joint_kind_of` meets its contract. Assumes nothing.
+use Rattle.records.specs.Numbers.{byNumber}
 use Rattle.records.specs.Record.{jointKindAt}
 use native.Mathlib.Omega.{arith}
 use Rattle.records.proofs.RecordLaws.{last-kind}
@@ -6,23 +7,23 @@ use Rattle.records.proofs.record.joint_kind_of.Statement.{statement}
 use Rattle.records.proofs.record.joint_kind_of.Tie as tie
 
 returns : tie.Need-returns
-unfolding jointKindAt
+unfolding jointKindAt byNumber
 returns c = rw (c .match .keys1)
 
 returns-2 : tie.Need-returns-2
-unfolding jointKindAt
+unfolding jointKindAt byNumber
 returns-2 c = rw (c .match .keys2)
 
 returns-3 : tie.Need-returns-3
-unfolding jointKindAt
+unfolding jointKindAt byNumber
 returns-3 c = rw (c .match .keys3)
 
 returns-4 : tie.Need-returns-4
-unfolding jointKindAt
+unfolding jointKindAt byNumber
 returns-4 c = rw (c .match .keys4)
 
 returns-5 : tie.Need-returns-5
-unfolding jointKindAt
+unfolding jointKindAt byNumber
 returns-5 c = rw (c .match .keys5)
 
 returns-6 : tie.Need-returns-6

@@ -1,5 +1,6 @@
 -- `records::record::law_at` meets its contract. Assumes nothing.
 use Prim.Native.Nat.{_≤_}
+use Rattle.records.specs.Numbers.{byNumber}
 use Rattle.records.specs.Record.{lawBy, byteAt}
 use native.Mathlib.Omega.{arith}
 use Rattle.records.proofs.RecordLaws.{last-law}
@@ -92,27 +93,27 @@ double-at-requires-7 : tie.Need-double-at-requires-7
 double-at-requires-7 c κs = search needs
 
 returns : tie.Need-returns
-unfolding lawBy
+unfolding lawBy byNumber
 returns c = rw (c .before .match .keys1, c .double-at .ensures)
 
 returns-2 : tie.Need-returns-2
-unfolding lawBy
+unfolding lawBy byNumber
 returns-2 c = rw (c .before .match .keys2, c .double-at2 .ensures)
 
 returns-3 : tie.Need-returns-3
-unfolding lawBy
+unfolding lawBy byNumber
 returns-3 c = rw (c .before .before .match .keys3, c .before .double-at3 .ensures, c .vec-at .ensures)
 
 returns-4 : tie.Need-returns-4
-unfolding lawBy
+unfolding lawBy byNumber
 returns-4 c = rw (c .before .before .match .keys4, c .before .double-at4 .ensures)
 
 returns-5 : tie.Need-returns-5
-unfolding lawBy
+unfolding lawBy byNumber
 returns-5 c = rw (c .before .before .match .keys5, c .before .double-at5 .ensures)
 
 returns-6 : tie.Need-returns-6
-unfolding lawBy
+unfolding lawBy byNumber
 returns-6 c = rw (c .before .match .keys6, c .end-at .ensures)
 
 returns-7 : tie.Need-returns-7

@@ -1,15 +1,16 @@
 -- `records::record::place_of` meets its contract. Assumes nothing.
 use borrow.Author.Tests.{eq-eqb, ne-eqb}
+use Rattle.records.specs.Numbers.{byNumber}
 use Rattle.records.specs.Record.{bodyNumberAt}
 use Rattle.records.proofs.record.place_of.Statement.{statement}
 use Rattle.records.proofs.record.place_of.Tie as tie
 
 returns : tie.Need-returns
-unfolding bodyNumberAt
+unfolding bodyNumberAt byNumber
 returns c = rw (eq-eqb _ _ (c .if1 .taken))
 
 returns-2 : tie.Need-returns-2
-unfolding bodyNumberAt
+unfolding bodyNumberAt byNumber
 returns-2 c = rw (ne-eqb _ _ (c .if1 .left))
 
 pub place-of-spec : {M : Type 1} → statement M

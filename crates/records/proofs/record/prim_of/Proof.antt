@@ -1,4 +1,5 @@
 -- `records::record::prim_of` meets its contract. Assumes nothing.
+use Rattle.records.specs.Numbers.{byNumber}
 use Rattle.records.specs.Record.{primAt}
 use native.Mathlib.Omega.{arith}
 use Rattle.records.proofs.RecordLaws.{last-prim}
@@ -6,15 +7,15 @@ use Rattle.records.proofs.record.prim_of.Statement.{statement}
 use Rattle.records.proofs.record.prim_of.Tie as tie
 
 returns : tie.Need-returns
-unfolding primAt
+unfolding primAt byNumber
 returns c = rw (c .match .keys1)
 
 returns-2 : tie.Need-returns-2
-unfolding primAt
+unfolding primAt byNumber
 returns-2 c = rw (c .match .keys2)
 
 returns-3 : tie.Need-returns-3
-unfolding primAt
+unfolding primAt byNumber
 returns-3 c = rw (c .match .keys3)
 
 returns-4 : tie.Need-returns-4
