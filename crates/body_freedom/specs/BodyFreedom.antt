@@ -84,6 +84,7 @@ threeDoubles vs = vecAt vs 0 ++ (vecAt vs 1 ++ vecAt vs 2)
 abbrev pub turnDoubles : List Vec3 → List Vec3 → List Float
 turnDoubles axes points = (vecAt axes 0 ++ vecAt points 0) ++ ((vecAt axes 1 ++ vecAt points 1) ++ (vecAt axes 2 ++ vecAt points 2))
 
+-- counts, slides and turns as the arrays hold them; of at most three slides and turns these are the 29 doubles of the layout
 abbrev pub structDoubles : FreedomStruct → List Float
 structDoubles f =
     (countDouble (f .slides .count) ∷ countDouble (f .axes .count) ∷ []) ++ (threeDoubles (f .slides .vectors) ++ turnDoubles (f .axes .vectors) (f .points))

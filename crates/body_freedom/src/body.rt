@@ -373,10 +373,10 @@ fn put_counts(s: &mut [f64], o: usize, slides: usize, turns: usize)
     s[o + 1] = count_double(turns);
 }
 
-// The 29 doubles of a body's freedom, to place o.
+// The 29 doubles of a body's freedom as its arrays hold it, to place o.
 pub fn put_freedom(s: &mut [f64], o: usize, f: Freedom)
     requires { ⌜ o + 29 ≤ length (now s) ⌝ }
-    ensures { λ _. ⌜ ((d : dof.Freedom) → f ≡ spec.freedomStruct d → length (d .slides) ≤ 3 → length (d .turns) ≤ 3 → Put (now (s .entry)) (now (s .exit)) o 29 (freedomDoubles d)) ⌝ }
+    ensures { λ _. ⌜ Put (now (s .entry)) (now (s .exit)) o 29 (spec.structDoubles f) ⌝ }
 {
     let slides = f.slides;
     let axes = f.axes;

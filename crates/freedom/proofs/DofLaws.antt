@@ -17,11 +17,11 @@ use Rattle.body_freedom.specs.Dof.{Freedom, bodyDof, bodyRows, zeros, freedomOf
 use Rattle.scene.specs.declared.scene.Scene.{Scene as SceneStruct}
 use Rattle.scene.proofs.SceneLaws.{Growing, growing-start, growing-step, growing-end, bodies-next, length-bodies, drop-whole, put-front}
 use Rattle.body_freedom.specs.Layout.{freedomDoubles, freedomsDoubles}
-use Rattle.body_freedom.specs.BodyFreedom.{fromSquare, freedomStruct}
+use Rattle.body_freedom.specs.BodyFreedom.{fromSquare, freedomStruct, structDoubles}
 use Rattle.body_freedom.specs.BodySlopes.{starts, BodySquare}
 use Rattle.freedom.specs.Freed.{BodyFreed, Freed}
 use Rattle.body_freedom.specs.declared.body.Freedom.{Freedom as FreedomStruct}
-use Rattle.body_freedom.proofs.BodyLaws.{body-dof-is, few-slides, few-turns}
+use Rattle.body_freedom.proofs.BodyLaws.{body-dof-is, few-slides, few-turns, put-struct}
 use Rattle.body_freedom.proofs.BodySlopeLaws.{starts-there}
 
 -- ---- one body
@@ -52,7 +52,7 @@ freed-fixed sc s p m i d e a b q h k y =
 
 pub freed-free : (sc : Scene) (s t : List Float) (p m i : ℕ) (d e : List Float) (a b : Body) (square : List (List Float)) (l : Float) (f : FreedomStruct) → a ≡ b → a .fixed ≡ false
     → BodySquare sc s t p m i b square → l ≡ halfSize (a .size) → f ≡ freedomStruct (fromSquare (flat 6 square) (a .center) l)
-    → ((w : Freedom) → f ≡ freedomStruct w → length (w .slides) ≤ 3 → length (w .turns) ≤ 3 → Put d e (29 * i) 29 (freedomDoubles w)) → BodyFreed sc s t p m i d e (freedomOf sc i b)
+    → Put d e (29 * i) 29 (structDoubles f) → BodyFreed sc s t p m i d e (freedomOf sc i b)
 freed-free sc s t p m i d e a b square l f q h x n g y =
     let w = fromSquare (flat 6 square) (a .center) l in
     let k : l ≡ halfSize (b .size) = n ∙ ap (λ (v : Body). halfSize (v .size)) q in
@@ -62,7 +62,7 @@ freed-free sc s t p m i d e a b square l f q h x n g y =
       poses = x .poses;
       filled =
           subst (λ (v : Freedom). Put d e (29 * i) 29 (freedomDoubles v)) (r ∙ sym (freedom-is sc i b false (fixed-as a b false q h)))
-          (y w g (few-slides (flat 6 square) (a .center) l) (few-turns (flat 6 square) (a .center) l));
+          (put-struct d e (29 * i) f w g (few-slides (flat 6 square) (a .center) l) (few-turns (flat 6 square) (a .center) l) y);
     }
 
 -- ---- the bodies one after another

@@ -1,7 +1,6 @@
 -- `body_freedom::body::put_freedom` meets its contract. The counts, the slides and the turns, one after the other. Assumes nothing.
 use mathlib.Core.Path.{refl}
 use Rattle.scene.proofs.SceneLaws.{put-then}
-use Rattle.body_freedom.proofs.BodyLaws.{put-struct}
 use borrow.Author.Needs.{needs}
 use Rattle.body_freedom.proofs.body.put_freedom.Statement.{statement}
 use Rattle.body_freedom.proofs.body.put_freedom.Tie as tie
@@ -26,9 +25,7 @@ same-length c = search needs
 
 returns : tie.Need-returns
 returns c =
-    λ d e h k.
-    put-struct _ _ _ (c .before .before .before .before .before .before .before .before .before .before .before .before .before .before .before .before .before .before .args .f) d e h k
-    (put-then _ _ _ _ 11 _ 18 _ _ refl (put-then _ _ _ _ 2 _ 9 _ _ refl (c .before .before .before .before .before .before .before .before .before .before .put-counts .ensures) (c .before .before .before .before .before .before .put-three .ensures)) (c .before .before .put-turns .ensures))
+    put-then _ _ _ _ 11 _ 18 _ _ refl (put-then _ _ _ _ 2 _ 9 _ _ refl (c .before .before .before .before .before .before .before .before .before .before .put-counts .ensures) (c .before .before .before .before .before .before .put-three .ensures)) (c .before .before .put-turns .ensures)
 
 pub put-freedom-spec : {M : Type 1} → statement M
 put-freedom-spec =

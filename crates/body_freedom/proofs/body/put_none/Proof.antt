@@ -3,8 +3,14 @@ use native.Mathlib.Omega.{arith}
 use mathlib.Core.Path.{refl}
 use mathlib.Core.List.{[]}
 use borrow.Author.Needs.{needs}
+use Rattle.body_freedom.specs.Dof.{Freedom}
+use Rattle.body_freedom.specs.BodyFreedom.{freedomStruct}
+use Rattle.body_freedom.proofs.BodyLaws.{put-struct}
 use Rattle.body_freedom.proofs.body.put_none.Statement.{statement}
 use Rattle.body_freedom.proofs.body.put_none.Tie as tie
+
+abbrev none : Freedom
+none = record { slides = []; turns = [] }
 
 put-freedom-requires : tie.Need-put-freedom-requires
 put-freedom-requires c κs = search needs
@@ -13,7 +19,7 @@ same-length : tie.Need-same-length
 same-length c = search needs
 
 returns : tie.Need-returns
-returns c = c .before .before .put-freedom .ensures (record { slides = []; turns = [] }) refl (omega arith) (omega arith)
+returns c = put-struct _ _ _ (freedomStruct none) none refl (omega arith) (omega arith) (c .before .before .put-freedom .ensures)
 
 pub put-none-spec : {M : Type 1} → statement M
 put-none-spec = tie.close (tie.spec put-freedom-requires same-length returns)
