@@ -7,7 +7,7 @@ use Prim.Native.Nat.{ℕ, zero, suc, _+_, _-_, _*_, _≤_, _<_}
 use native.Mathlib.Omega.{arith}
 use native.Mathlib.Numerals.{add-one}
 use native.Mathlib.Decide.{decLt, ℕ-discrete}
-use native.Mathlib.Nat.{not-suc-le-zero, le-of-suc-le-suc, eq-or-lt-of-le, mul-le-mul-right, mul-comm}
+use native.Mathlib.Nat.{not-suc-le-zero, le-of-suc-le-suc, eq-or-lt-of-le, mul-le-mul, mul-le-mul-right, mul-comm}
 use lib.ListN.{length, getD, set, drop, length-append, length-set, length-map}
 use lib.Seq.{getD-set-same, getD-set-other, set-set, ext-getD}
 use lib.Ieee.{Float, nan, binary64, add, sub, mul, div}
@@ -28,7 +28,22 @@ use Rattle.scene.specs.declared.scene.Scene.{Scene as SceneStruct}
 use Rattle.least_squares.proofs.MemoryLaws.{part-length, part-at, kept-part-below, kept-at-below, kept-at-above}
 use Rattle.least_squares.proofs.TableLaws.{length-listOf, getD-listOf, sum-same, in-rows, length-tableOf, getD-tableOf, table-ext}
 use Rattle.scene.proofs.SceneLaws.{Growing, growing-step, growing-room, growing-end, listOf-next, drop-whole, length-bodies, bodies-next, next-layout, poses-kept, poses-there, pose-of}
-use Rattle.body_freedom.specs.BodySlopes.{starts, shifted, namedRows, rowsOn, movedRows, RowsMoved, BodyColumn, BodySlopes, BodySquare}
+use Rattle.body_freedom.specs.BodySlopes.{bodyParts, BodyApart, starts, shifted, namedRows, rowsOn, movedRows, RowsMoved, BodyColumn, BodySlopes, BodySquare}
+use Rattle.body_freedom.specs.declared.body_slopes.BodyParts.{BodyParts as BodyPartsStruct}
+
+-- ---- where the parts stand
+
+-- of so many rows and unknowns there are few slopes
+pub few-slopes : (c : SceneStruct) → c .rows ≤ 896 → c .n ≤ 384 → c .rows * c .n ≤ 344064
+few-slopes c h l = mul-le-mul h l
+
+-- each part from where the last ended: no part reaches into the next
+pub body-apart : (c : SceneStruct) (p : BodyPartsStruct) (size : ℕ) → p ≡ bodyParts c → bodyParts c .poses + 12 * c .m ≤ size → BodyApart c p size
+body-apart c p size e h = rw e (record { slopes = omega arith; ahead = omega arith; behind = omega arith; poses = h })
+
+-- the same in a scratch of the same size
+pub still-apart : (c : SceneStruct) (p : BodyPartsStruct) (size size' : ℕ) → size' ≡ size → BodyApart c p size → BodyApart c p size'
+still-apart c p size size' e h = record { slopes = h .slopes; ahead = h .ahead; behind = h .behind; poses = omega arith }
 
 -- ---- the poses of the frames
 

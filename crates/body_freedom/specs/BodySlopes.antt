@@ -1,6 +1,6 @@
 -- The rows of the relations that name one body, their slopes along its six unknowns, and the six by six of the slopes, over the lent scratch: the closure f of `dof` in
 -- solve.rs, and `body_dof` up to its eigenvalues. s is the scratch at entry and t at exit; the poses of the m bodies stand from place p on. Definitions only.
-use Prim.Native.Nat.{ℕ, _+_, _*_, _<_}
+use Prim.Native.Nat.{ℕ, _+_, _*_, _≤_, _<_}
 use mathlib.Core.Path.{_≡_}
 use mathlib.Core.Bool.{cond}
 use mathlib.Core.List.{List, [], map}
@@ -16,6 +16,21 @@ use Rattle.scene.specs.Solve.{Scene, names, three, movedPose, allRows, halfSize
 use Rattle.scene.specs.Scene.{relRows, posesIn}
 use Rattle.body_freedom.specs.Dof.{relsOf, withBody, bodyRows, zeros, squareOf}
 use Rattle.scene.specs.declared.scene.Scene.{Scene as SceneStruct}
+use Rattle.body_freedom.specs.declared.body_slopes.BodyParts.{BodyParts as BodyPartsStruct}
+
+-- each part from where the last ended, the slopes from 0 on: R·n slopes, R rows ahead, R rows behind
+abbrev pub bodyParts : SceneStruct → BodyPartsStruct
+bodyParts c = record { ahead = c .rows * c .n; behind = c .rows * c .n + c .rows; poses = c .rows * c .n + c .rows + c .rows }
+
+-- no part reaches into the next, and all stand within a scratch of this size, lent from the slopes on
+pub record BodyApart (c : SceneStruct) (p : BodyPartsStruct) (size : ℕ) : Type 0 where
+  -- the slopes, from 0 on
+  pub slopes : c .rows * c .n ≤ p .ahead
+  -- the rows with one of the body's unknowns a step ahead, and a step behind
+  pub ahead : p .ahead + c .rows ≤ p .behind
+  pub behind : p .behind + c .rows ≤ p .poses
+  -- the poses of all bodies
+  pub poses : p .poses + 12 * c .m ≤ size
 
 -- the poses of the bodies' own frames
 abbrev pub starts : Scene → List (Pose Float)
@@ -66,7 +81,7 @@ pub record BodySlopes (sc : Scene) (s t : List Float) (p m i : ℕ) (b : Body) (
   pub holds : part t 0 (rows * 6) ≡ jacobian (movedRows sc (posesIn s p m) i b) (zeros 6) rows
   pub poses : (w : Pose Float) → set (posesIn t p m) i w ≡ set (posesIn s p m) i w
 
--- the six by six of body i's slopes; the bodies stand at their frames again
+-- the six by six of body i's slopes; the bodies stand at their frames again. What stands in the places of slopes and rows is open: they are scratch.
 pub record BodySquare (sc : Scene) (s t : List Float) (p m i : ℕ) (b : Body) (a : List (List Float)) : Type 0 where
   pub square : flat 6 a ≡ squareOf (jacobian (bodyRows sc i b) (zeros 6) (length (bodyRows sc i b (zeros 6)))) (length (bodyRows sc i b (zeros 6))) 6
   pub size : length t ≡ length s

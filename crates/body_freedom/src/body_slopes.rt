@@ -27,6 +27,30 @@ use slopes::slopes::put_column;
 use slopes::slopes::step_of;
 use vectors::vec::Vec3;
 
+// Where the parts stand in the scratch that is lent from the slopes on; the slopes stand at 0. `BodyApart` says what each is for.
+pub struct BodyParts {
+    pub ahead: usize,
+    pub behind: usize,
+    pub poses: usize,
+}
+
+// The parts, each from where the last ended.
+pub fn body_parts(scene: Scene) -> BodyParts
+    requires { ⌜ (scene .rows ≤ 896) × (scene .n ≤ 384) ⌝ }
+    ensures { λ parts. ⌜ parts ≡ spec.bodyParts scene ⌝ }
+{
+    let n = scene.n;
+    let rows = scene.rows;
+    let ahead = rows * n;
+    let behind = ahead + rows;
+    let poses = behind + rows;
+    BodyParts {
+        ahead,
+        behind,
+        poses,
+    }
+}
+
 // The pose of body i's own frame, to place o.
 fn put_start(sheet: &[u8], scene: Scene, s: &mut [f64], o: usize, i: usize)
     requires { ⌜ Laid (now sheet) scene ⌝ }
@@ -150,26 +174,24 @@ fn one_unknown(c: usize, v: f64) -> [f64; 6]
     x
 }
 
-// Column c of the slopes at 0, from the rows a step ahead at a and a step behind at b; how many rows there are.
+// Column c of the slopes, from the rows a step ahead and a step behind; how many rows there are.
 fn body_column(
     sheet: &[u8],
     scene: Scene,
     s: &mut [f64],
     i: usize,
-    a: usize,
-    b: usize,
-    p: usize,
+    parts: BodyParts,
     c: usize,
 ) -> usize
     requires { ⌜ Laid (now sheet) scene ⌝ }
-    requires { ⌜ i < scene .m ⌝ }
-    requires { ⌜ c < 6 ⌝ }
-    requires { ⌜ length (spec.rowsOn (sceneOf (now sheet) scene) i (posesIn (now s) p (scene .m))) * 6 ≤ a ⌝ }
-    requires { ⌜ a + scene .rows ≤ b ⌝ }
-    requires { ⌜ b + scene .rows ≤ p ⌝ }
-    requires { ⌜ p + 12 * scene .m ≤ length (now s) ⌝ }
-    ensures { λ rows. ⌜ spec.BodyColumn (sceneOf (now (sheet .entry)) scene) (now (s .entry)) (now (s .exit)) p (scene .m) i (format.bodyAt (now (sheet .entry)) (scene .bodies + 136 * i)) c rows ⌝ }
+    requires { ⌜ (i < scene .m) × (c < 6) ⌝ }
+    requires { ⌜ spec.BodyApart scene parts (length (now s)) ⌝ }
+    requires { ⌜ length (spec.rowsOn (sceneOf (now sheet) scene) i (posesIn (now s) (parts .poses) (scene .m))) * 6 ≤ parts .ahead ⌝ }
+    ensures { λ rows. ⌜ spec.BodyColumn (sceneOf (now (sheet .entry)) scene) (now (s .entry)) (now (s .exit)) (parts .poses) (scene .m) i (format.bodyAt (now (sheet .entry)) (scene .bodies + 136 * i)) c rows ⌝ }
 {
+    let a = parts.ahead;
+    let b = parts.behind;
+    let p = parts.poses;
     let h = step_of(0.0);
     let end = rows_moved(sheet, scene, s, p, i, a, one_unknown(c, 0.0 + h));
     rows_moved(sheet, scene, s, p, i, b, one_unknown(c, 0.0 - h));
@@ -178,27 +200,17 @@ fn body_column(
     rows
 }
 
-// The slopes of body i's rows, to the places from 0 on: rows ahead at a, rows behind at b; how many rows there are.
-fn body_slopes(
-    sheet: &[u8],
-    scene: Scene,
-    s: &mut [f64],
-    i: usize,
-    a: usize,
-    b: usize,
-    p: usize,
-) -> usize
+// The slopes of body i's rows, six to a row, to the places from 0 on; how many rows there are.
+fn body_slopes(sheet: &[u8], scene: Scene, s: &mut [f64], i: usize, parts: BodyParts) -> usize
     requires { ⌜ Laid (now sheet) scene ⌝ }
     requires { ⌜ i < scene .m ⌝ }
-    requires { ⌜ length (spec.rowsOn (sceneOf (now sheet) scene) i (posesIn (now s) p (scene .m))) * 6 ≤ a ⌝ }
-    requires { ⌜ a + scene .rows ≤ b ⌝ }
-    requires { ⌜ b + scene .rows ≤ p ⌝ }
-    requires { ⌜ p + 12 * scene .m ≤ length (now s) ⌝ }
-    ensures { λ rows. ⌜ spec.BodySlopes (sceneOf (now (sheet .entry)) scene) (now (s .entry)) (now (s .exit)) p (scene .m) i (format.bodyAt (now (sheet .entry)) (scene .bodies + 136 * i)) rows ⌝ }
+    requires { ⌜ spec.BodyApart scene parts (length (now s)) ⌝ }
+    requires { ⌜ length (spec.rowsOn (sceneOf (now sheet) scene) i (posesIn (now s) (parts .poses) (scene .m))) * 6 ≤ parts .ahead ⌝ }
+    ensures { λ rows. ⌜ spec.BodySlopes (sceneOf (now (sheet .entry)) scene) (now (s .entry)) (now (s .exit)) (parts .poses) (scene .m) i (format.bodyAt (now (sheet .entry)) (scene .bodies + 136 * i)) rows ⌝ }
 {
     let mut rows = 0;
     for c in 0usize..6 {
-        rows = body_column(sheet, scene, s, i, a, b, p, c);
+        rows = body_column(sheet, scene, s, i, parts, c);
     }
     rows
 }
@@ -247,27 +259,23 @@ fn square(s: &[f64], rows: usize) -> [[f64; 6]; 6]
     [r0, r1, r2, r3, r4, r5]
 }
 
-// The six by six of body i's slopes, the bodies standing at their frames from p on; rows ahead at a, rows behind at b, the slopes from 0 on.
+// The six by six of body i's slopes, the bodies standing at their frames; s is lent from the slopes on. What stands in the places of slopes and rows afterwards is open:
+// they are scratch.
 pub fn body_square(
     sheet: &[u8],
     scene: Scene,
     s: &mut [f64],
     i: usize,
-    a: usize,
-    b: usize,
-    p: usize,
+    parts: BodyParts,
 ) -> [[f64; 6]; 6]
     requires { ⌜ Laid (now sheet) scene ⌝ }
-    requires { ⌜ i < scene .m ⌝ }
-    requires { ⌜ format.bodyAt (now sheet) (scene .bodies + 136 * i) .fixed ≡ false ⌝ }
-    requires { ⌜ scene .rows * scene .n ≤ a ⌝ }
-    requires { ⌜ a + scene .rows ≤ b ⌝ }
-    requires { ⌜ b + scene .rows ≤ p ⌝ }
-    requires { ⌜ p + 12 * scene .m ≤ length (now s) ⌝ }
-    requires { ⌜ posesIn (now s) p (scene .m) ≡ spec.starts (sceneOf (now sheet) scene) ⌝ }
-    ensures { λ r. ⌜ spec.BodySquare (sceneOf (now (sheet .entry)) scene) (now (s .entry)) (now (s .exit)) p (scene .m) i (format.bodyAt (now (sheet .entry)) (scene .bodies + 136 * i)) r ⌝ }
+    requires { ⌜ (i < scene .m) × (format.bodyAt (now sheet) (scene .bodies + 136 * i) .fixed ≡ false) ⌝ }
+    requires { ⌜ spec.BodyApart scene parts (length (now s)) ⌝ }
+    requires { ⌜ posesIn (now s) (parts .poses) (scene .m) ≡ spec.starts (sceneOf (now sheet) scene) ⌝ }
+    ensures { λ r. ⌜ spec.BodySquare (sceneOf (now (sheet .entry)) scene) (now (s .entry)) (now (s .exit)) (parts .poses) (scene .m) i (format.bodyAt (now (sheet .entry)) (scene .bodies + 136 * i)) r ⌝ }
 {
-    let rows = body_slopes(sheet, scene, s, i, a, b, p);
+    let p = parts.poses;
+    let rows = body_slopes(sheet, scene, s, i, parts);
     put_start(sheet, scene, s, p + 12 * i, i);
     square(s, rows)
 }

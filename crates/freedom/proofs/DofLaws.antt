@@ -5,8 +5,9 @@ use mathlib.Core.Bool.{Bool, true, false, cond, not, _&&_}
 use mathlib.Core.List.{List, [], _∷_, _++_}
 use native.Mathlib.Omega.{arith}
 use native.Mathlib.Numerals.{add-one}
-use lib.ListN.{length, drop}
+use lib.ListN.{length, take, drop}
 use lib.Ieee.{Float}
+use borrow.Rule.Slice.PartMut.{putMid, same-len-mid}
 use Rattle.spans.specs.Flat.{flat}
 use Rattle.relations.specs.Model.{Body, Rel}
 use Rattle.least_squares.specs.Lm.{jacobian}
@@ -19,7 +20,7 @@ use Rattle.scene.proofs.SceneLaws.{Growing, growing-start, growing-step, growin
 use Rattle.body_freedom.specs.Layout.{freedomDoubles, freedomsDoubles}
 use Rattle.body_freedom.specs.BodyFreedom.{fromSquare, freedomStruct, structDoubles}
 use Rattle.body_freedom.specs.BodySlopes.{starts, BodySquare}
-use Rattle.freedom.specs.Freed.{BodyFreed, Freed}
+use Rattle.freedom.specs.Freed.{BodyFreed, BodiesFreed, Freed}
 use Rattle.body_freedom.specs.declared.body.Freedom.{Freedom as FreedomStruct}
 use Rattle.body_freedom.proofs.BodyLaws.{body-dof-is, few-slides, few-turns, put-struct}
 use Rattle.body_freedom.proofs.BodySlopeLaws.{starts-there}
@@ -108,18 +109,26 @@ one-passed sheet c s t u d e g p i h x y =
       filled = growing-step d e g 0 (29 * i) (29 * i) 29 (29 * (i + 1)) _ _ _ _ (omega arith) (omega arith) (rest-next sheet c i h) (x .filled) (y .filled);
     }
 
-pub all-passed : (sheet : List ℕ) (c : SceneStruct) (r s t u d e : List Float) (p i total : ℕ) → c .m ≤ i → length s ≡ length r → Passed sheet c s t d e p i
-    → (total ≡ totalFreedom (sceneOf sheet c)) × (length u ≡ length t) → Freed (sceneOf sheet c) (c .m) r u d e total
+pub all-passed : (sheet : List ℕ) (c : SceneStruct) (r s t d e : List Float) (p i : ℕ) → c .m ≤ i → length s ≡ length r → Passed sheet c s t d e p i
+    → BodiesFreed (sceneOf sheet c) (c .m) r t d e
 unfolding dof
-all-passed sheet c r s t u d e p i total h n x y =
+all-passed sheet c r s t d e p i h n x =
     let k : i ≡ c .m = omega (arith, x .within) in
     record {
-      size = y .1 ∙ x .size ∙ n;
+      size = x .size ∙ n;
       freedoms-are =
           subst (λ (w : ℕ). e ≡ rest sheet c 0 ++ drop (29 * w) d) k
           (put-front d e (29 * i) (rest sheet c 0) (growing-end d e 0 (29 * i) _ _ (rest-done sheet c i k) (x .filled)));
-      total-is = y .0;
     }
+
+-- ---- the bodies and the whole
+
+-- the part lent from a on is back, with the size that it had; the whole assembly's freedom comes last
+pub freed-is : (sc : Scene) (m a : ℕ) (s q u d e : List Float) (total : ℕ) → BodiesFreed sc m (take (length s - a) (drop a s)) q d e
+    → (total ≡ totalFreedom sc) × (length u ≡ length (putMid a (length s - a) s q)) → Freed sc m s u d e total
+unfolding dof
+freed-is sc m a s q u d e total x y =
+    record { size = y .1 ∙ same-len-mid a (length s - a) s q (x .size); freedoms-are = x .freedoms-are; total-is = y .0 }
 
 -- ---- how many there are
 

@@ -9,11 +9,15 @@ use Rattle.scene.specs.Solve.{Scene}
 use Rattle.body_freedom.specs.Dof.{Freedom, dof}
 use Rattle.scene.specs.declared.scene.Scene.{Scene as SceneStruct}
 use Rattle.body_freedom.specs.Layout.{freedomDoubles, freedomsDoubles}
-use Rattle.body_freedom.specs.BodySlopes.{starts}
+use Rattle.body_freedom.specs.BodySlopes.{bodyParts, starts}
 
 -- the doubles of scratch that document 01 counts: R·n+2n²+8R+8n+32m
 abbrev pub need : SceneStruct → ℕ
 need c = c .rows * c .n + 2 * (c .n * c .n) + 8 * c .rows + 8 * c .n + 32 * c .m
+
+-- those that one body's slopes take, from the slopes on
+abbrev pub bodyNeed : SceneStruct → ℕ
+bodyNeed c = bodyParts c .poses + 12 * c .m
 
 -- the freedom of body i has been filled in; the starting poses still stand in scratch
 pub record BodyFreed (sc : Scene) (s t : List Float) (p m i : ℕ) (d e : List Float) (f : Freedom) : Type 0 where
@@ -21,7 +25,12 @@ pub record BodyFreed (sc : Scene) (s t : List Float) (p m i : ℕ) (d e : List F
   pub poses : posesIn t p m ≡ starts sc
   pub filled : Put d e (29 * i) 29 (freedomDoubles f)
 
--- the slice at entry and at exit, of a scene with m bodies
+-- the freedoms of all m bodies have been filled in; of the scratch only its size is known
+pub record BodiesFreed (sc : Scene) (m : ℕ) (s t freedoms freedoms' : List Float) : Type 0 where
+  pub size : length t ≡ length s
+  pub freedoms-are : freedoms' ≡ freedomsDoubles (dof sc .bodies) ++ drop (29 * m) freedoms
+
+-- the slice at entry and at exit, of a scene with m bodies; of the scratch only its size is known
 pub record Freed (sc : Scene) (m : ℕ) (s t freedoms freedoms' : List Float) (total : ℕ) : Type 0 where
   pub size : length t ≡ length s
   pub freedoms-are : freedoms' ≡ freedomsDoubles (dof sc .bodies) ++ drop (29 * m) freedoms

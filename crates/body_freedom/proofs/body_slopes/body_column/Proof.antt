@@ -34,7 +34,7 @@ put-column-requires c κs =
     let n = c .before .before .before .before .before .before .before .before .rows-moved .ensures .next in
     let z = c .before .before .before .before .before .before .before .before .rows-moved .ensures .size in
     let w = c .before .before .before .rows-moved2 .ensures .size in
-    let f = on-fits (g .sheet .now) (g .scene) (g .i) (posesIn (g .s .now) (g .p) (g .scene .m)) (c .before .before .before .before .before .before .before .before .before .before .before .before .before .before .pre .0) in
+    let f = on-fits (g .sheet .now) (g .scene) (g .i) (posesIn (g .s .now) (g .parts .poses) (g .scene .m)) (c .before .before .before .before .before .before .before .before .before .before .before .before .before .before .pre .0) in
     (omega arith, (omega arith, (omega arith, omega arith)))
 
 same-length : tie.Need-same-length
@@ -43,24 +43,24 @@ same-length c = c .before .before .put-column .ensures .kept .size ∙ c .before
 returns : tie.Need-returns
 returns c =
     let g = c .before .before .before .before .before .before .before .before .before .before .before .before .before .before .before .before .before .args in
-    let q = posesIn (g .s .now) (g .p) (g .scene .m) in
+    let q = posesIn (g .s .now) (g .parts .poses) (g .scene .m) in
     let n = c .before .before .before .before .before .before .before .before .before .before .before .rows-moved .ensures .next in
-    let e : c .before .before .before .before .before .before .before .before .before .before .before .rows-moved .result - g .a ≡ length (rowsOn (sceneOf (g .sheet .now) (g .scene)) (g .i) q) = omega arith in
+    let e : c .before .before .before .before .before .before .before .before .before .before .before .rows-moved .result - g .parts .ahead ≡ length (rowsOn (sceneOf (g .sheet .now) (g .scene)) (g .i) q) = omega arith in
     let f = on-fits (g .sheet .now) (g .scene) (g .i) q (c .before .before .before .before .before .before .before .before .before .before .before .before .before .before .before .before .before .pre .0) in
-    let m : c .before .before .before .before .before .before .before .before .before .before .before .rows-moved .result - g .a ≤ g .scene .rows = omega arith in
-    let h : (c .before .before .before .before .before .before .before .before .before .before .before .rows-moved .result - g .a) * 6 ≤ g .a = omega (arith, c .before .before .before .before .before .before .before .before .before .before .before .before .before .before .before .before .before .pre .1 .1 .1 .0) in
-    body-column-is (sceneOf (g .sheet .now) (g .scene)) (g .s .now) _ _ _ (g .p) (g .scene .m) (g .i) (bodyAt (g .sheet .now) (g .scene .bodies + 136 * g .i)) (g .c) (g .a) (g .b) (g .scene .rows) _ _
-    (c .before .before .before .before .before .before .before .before .before .before .before .rows-moved .result - g .a)
+    let m : c .before .before .before .before .before .before .before .before .before .before .before .rows-moved .result - g .parts .ahead ≤ g .scene .rows = omega arith in
+    let h : (c .before .before .before .before .before .before .before .before .before .before .before .rows-moved .result - g .parts .ahead) * 6 ≤ g .parts .ahead = omega (arith, c .before .before .before .before .before .before .before .before .before .before .before .before .before .before .before .before .before .pre .1 .1 .1) in
+    body-column-is (sceneOf (g .sheet .now) (g .scene)) (g .s .now) _ _ _ (g .parts .poses) (g .scene .m) (g .i) (bodyAt (g .sheet .now) (g .scene .bodies + 136 * g .i)) (g .c) (g .parts .ahead) (g .parts .behind) (g .scene .rows) _ _
+    (c .before .before .before .before .before .before .before .before .before .before .before .rows-moved .result - g .parts .ahead)
     _
     _
     (c .before .before .before .before .before .before .before .before .before .before .before .before .before .before .step-of .result)
-    (c .before .before .before .before .before .before .before .before .before .before .before .before .before .before .before .before .before .pre .1 .1 .0)
+    (c .before .before .before .before .before .before .before .before .before .before .before .before .before .before .before .before .before .pre .1 .0 .1)
     e
     m
     h
-    (c .before .before .before .before .before .before .before .before .before .before .before .before .before .before .before .before .before .pre .1 .1 .1 .1 .0)
-    (c .before .before .before .before .before .before .before .before .before .before .before .before .before .before .before .before .before .pre .1 .1 .1 .1 .1 .0)
-    (omega (arith, c .before .before .before .before .before .before .before .before .before .before .before .before .before .before .before .before .before .pre .1 .1 .1 .1 .1 .1))
+    (c .before .before .before .before .before .before .before .before .before .before .before .before .before .before .before .before .before .pre .1 .1 .0 .ahead)
+    (c .before .before .before .before .before .before .before .before .before .before .before .before .before .before .before .before .before .pre .1 .1 .0 .behind)
+    (omega (arith, c .before .before .before .before .before .before .before .before .before .before .before .before .before .before .before .before .before .pre .1 .1 .0 .poses))
     (c .before .before .before .before .before .before .before .before .before .before .before .before .before .before .step-of .ensures)
     (c .before .before .before .before .before .before .before .before .before .before .before .before .one-unknown .ensures)
     (c .before .before .before .before .before .before .before .one-unknown2 .ensures)

@@ -19,7 +19,7 @@ mul-put-none : tie.Need-mul-put-none
 mul-put-none c = search needs
 
 put-none-requires : tie.Need-put-none-requires
-put-none-requires c κs = c .before .before .before .before .before .before .before .pre .1 .1 .1 .1 .1 .1 .1
+put-none-requires c κs = c .before .before .before .before .before .before .before .pre .1 .0 .1
 
 same-length : tie.Need-same-length
 same-length c = search needs
@@ -27,12 +27,12 @@ same-length c = search needs
 returns : tie.Need-returns
 returns c =
     let g = c .before .before .before .before .before .before .before .before .before .before in
-    freed-fixed _ _ (g .args .p) _ _ _ _ _ _ (c .before .before .before .before .before .body-at .ensures) (c .before .before .before .before .if1 .taken) (g .pre .1 .1 .1 .1 .1 .1 .0) (c .before .before .put-none .ensures)
+    freed-fixed _ _ (g .args .parts .poses) _ _ _ _ _ _ (c .before .before .before .before .before .body-at .ensures) (c .before .before .before .before .if1 .taken) (g .pre .1 .1 .1) (c .before .before .put-none .ensures)
 
 body-square-requires : tie.Need-body-square-requires
 body-square-requires c κs =
     let f = c .before .before .before .before .before .before .before .pre in
-    (f .0, (f .1 .0, (fixed-as _ _ false (c .before .before .body-at .ensures) (c .before .if1 .left), (f .1 .1 .0, (f .1 .1 .1 .0, (f .1 .1 .1 .1 .0, (f .1 .1 .1 .1 .1 .0, f .1 .1 .1 .1 .1 .1 .0)))))))
+    (f .0, ((f .1 .0 .0, fixed-as _ _ false (c .before .before .body-at .ensures) (c .before .if1 .left)), (f .1 .1 .0, f .1 .1 .1)))
 
 half-size-requires : tie.Need-half-size-requires
 half-size-requires c κs = search needs
@@ -43,10 +43,10 @@ body-dof-requires c κs = search needs
 mul-put-freedom : tie.Need-mul-put-freedom
 mul-put-freedom c =
     let f = c .before .before .before .before .before .before .before .before .before .before .before .before .before .before .pre in
-    omega (arith, f .0 .body-count, f .1 .0)
+    omega (arith, f .0 .body-count, f .1 .0 .0)
 
 put-freedom-requires : tie.Need-put-freedom-requires
-put-freedom-requires c κs = c .before .before .before .before .before .before .before .before .before .before .before .before .before .before .pre .1 .1 .1 .1 .1 .1 .1
+put-freedom-requires c κs = c .before .before .before .before .before .before .before .before .before .before .before .before .before .before .pre .1 .0 .1
 
 same-length-2 : tie.Need-same-length-2
 same-length-2 c = search needs
