@@ -1,5 +1,6 @@
 -- The rows of the relations that name one body, their slopes along its six unknowns, and the six by six of the slopes, over the lent scratch: the closure f of `dof` in
--- solve.rs, and `body_dof` up to its eigenvalues. s is the scratch at entry and t at exit; the poses of the m bodies stand from place p on. Definitions only.
+-- solve.rs, and `body_dof` up to its eigenvalues. s is the scratch, lent from the slopes on, at entry and t at exit; what a record does not say of t is open. The poses of the m
+-- bodies stand from place p on. Definitions only.
 use Prim.Native.Nat.{ℕ, _+_, _*_, _≤_, _<_}
 use mathlib.Core.Path.{_≡_}
 use mathlib.Core.Bool.{cond}

@@ -21,6 +21,7 @@ use Rattle.body_freedom.specs.Layout.{freedomDoubles, freedomsDoubles}
 use Rattle.body_freedom.specs.BodyFreedom.{fromSquare, freedomStruct, structDoubles}
 use Rattle.body_freedom.specs.BodySlopes.{starts, BodySquare}
 use Rattle.freedom.specs.Freed.{BodyFreed, BodiesFreed, Freed}
+use Rattle.freedom.specs.Total.{Counted}
 use Rattle.body_freedom.specs.declared.body.Freedom.{Freedom as FreedomStruct}
 use Rattle.body_freedom.proofs.BodyLaws.{body-dof-is, few-slides, few-turns, put-struct}
 use Rattle.body_freedom.proofs.BodySlopeLaws.{starts-there}
@@ -125,10 +126,10 @@ all-passed sheet c r s t d e p i h n x =
 
 -- the part lent from a on is back, with the size that it had; the whole assembly's freedom comes last
 pub freed-is : (sc : Scene) (m a : ℕ) (s q u d e : List Float) (total : ℕ) → BodiesFreed sc m (take (length s - a) (drop a s)) q d e
-    → (total ≡ totalFreedom sc) × (length u ≡ length (putMid a (length s - a) s q)) → Freed sc m s u d e total
+    → Counted sc (putMid a (length s - a) s q) u total → Freed sc m s u d e total
 unfolding dof
 freed-is sc m a s q u d e total x y =
-    record { size = y .1 ∙ same-len-mid a (length s - a) s q (x .size); freedoms-are = x .freedoms-are; total-is = y .0 }
+    record { size = y .size ∙ same-len-mid a (length s - a) s q (x .size); freedoms-are = x .freedoms-are; total-is = y .total-is }
 
 -- ---- how many there are
 

@@ -1,6 +1,6 @@
 -- The whole assembly, step by step: the scaled unknowns, the slopes of any function column by column, their square row by row, the rank by the values, the free bodies that no relation
 -- names. Assumes nothing.
-use mathlib.Core.Path.{_≡_, refl, sym, ap, _∙_}
+use mathlib.Core.Path.{_≡_, refl, sym, ap, subst, _∙_}
 use mathlib.Core.Bool.{Bool, true, false, not, _&&_, _||_, cond}
 use mathlib.Core.Logic.{_⊎_, inl, inr, ⊎-elim}
 use mathlib.Core.List.{List, [], _∷_, _++_, map}
@@ -8,11 +8,11 @@ use mathlib.Core.Option.{Option, none, some}
 use Prim.Native.Nat.{ℕ, zero, suc, _+_, _-_, _*_, _≤_, _<_, min}
 use native.Mathlib.Omega.{arith}
 use native.Mathlib.Numerals.{add-one}
-use native.Mathlib.Nat.{not-suc-le-zero, le-of-suc-le-suc, eq-or-lt-of-le, zero-add, add-zero}
+use native.Mathlib.Nat.{not-suc-le-zero, le-of-suc-le-suc, eq-or-lt-of-le, zero-add, add-zero, mul-le-mul}
 use borrow.Author.Tests.{eq-eqb, ne-eqb}
 use lib.Dec.{eqb}
 use lib.ListN.{length, getD, set, take, drop, length-set, length-take, length-drop}
-use lib.Seq.{getD-set-same, getD-set-other, ext-getD, set-set, take-suc-set, drop-set-add, drop-cons}
+use lib.Seq.{getD-set-same, getD-set-other, ext-getD, set-set, take-length, take-suc-set, drop-set-add, drop-cons}
 use lib.Ieee.{Float, nan, binary64, add, sub, mul, div, neg, lt, le}
 use Rattle.numbers.specs.Double.{zero64, fmax}
 use Rattle.numbers.specs.Ops.{doubles}
@@ -29,14 +29,36 @@ use Rattle.scene.specs.Scene.{firstUnknown, sceneOf, Laid, Put, RowsAt, Column}
 use Rattle.scene.specs.Solve.{Scene, moves, layoutFrom, layout, unknowns, rowsOf, halfSize}
 use Rattle.body_freedom.specs.Dof.{columnsTimes, squareOf, largestValue, scaleThree, scaledFrom, scaledRows, stiffCount, rankRel, unnamedFrom, totalFreedom, zeros, top}
 use Rattle.scene.specs.declared.scene.Scene.{Scene as SceneStruct}
-use Rattle.least_squares.proofs.MemoryLaws.{part-length, part-at, part-set, kept-refl, kept-set, kept-trans, kept-wider, kept-at-below, kept-at-above, kept-part-below, part-part}
+use Rattle.least_squares.proofs.MemoryLaws.{part-length, part-at, part-set, kept-refl, kept-set, kept-trans, kept-wider, kept-at-below, kept-at-above, kept-part-below, put-tail, tail-part}
 use Rattle.least_squares.proofs.TableLaws.{in-rows, table-ext, sum-same, getD-listOf}
 use Rattle.scene.proofs.SceneLaws.{next-layout, length-bodies, bodies-next, layout-next, drop-whole}
 use Rattle.least_squares.proofs.LmLaws.{row-step, row-fits, entry-at}
-use borrow.Rule.Slice.PartMut.{putMid, mid-len}
+use borrow.Rule.Slice.PartMut.{putMid}
 use Rattle.freedom.specs.Values.{Values}
-use Rattle.freedom.proofs.ValueLaws.{lent-part}
-use Rattle.freedom.specs.Total.{scaledBy, RowsBy, SlopeColumnBy, SlopesBy, SquareRow, largestOf, stiffOne, stiffOf, rankOf, unnamedOne}
+use Rattle.freedom.specs.Freed.{need}
+use Rattle.freedom.specs.Total.{totalParts, TotalApart, scaledBy, RowsBy, SlopeColumnBy, SlopesBy, SquareRow, largestOf, stiffOne, stiffOf, rankOf, unnamedOne}
+use Rattle.freedom.specs.declared.total.TotalParts.{TotalParts as TotalPartsStruct}
+
+-- ---- where the parts stand
+
+-- of so many rows and unknowns there are few slopes, and few entries of their square
+pub few-entries : (c : SceneStruct) → c .rows ≤ 896 → c .n ≤ 384 → (c .rows * c .n ≤ 344064) × (c .n * c .n ≤ 147456)
+few-entries c h l = (mul-le-mul h l, mul-le-mul l l)
+
+-- each part from where the last ended: no part reaches into the next
+pub total-apart : (c : SceneStruct) (p : TotalPartsStruct) (size : ℕ) → p ≡ totalParts c → need c ≤ size → TotalApart c p size
+total-apart c p size e h =
+    rw e
+    (record { x = omega arith; slopes = omega arith; next = omega arith; scaled = omega arith; ahead = omega arith; behind = omega arith; poses = omega arith })
+
+-- the same in a scratch of the same size
+pub still-apart : (c : SceneStruct) (p : TotalPartsStruct) (size size' : ℕ) → size' ≡ size → TotalApart c p size → TotalApart c p size'
+still-apart c p size size' e h =
+    record { x = h .x; slopes = h .slopes; next = h .next; scaled = h .scaled; ahead = h .ahead; behind = h .behind; poses = omega arith }
+
+-- what is lent from a on is the rest
+pub rest-lent : (a : ℕ) (s : List Float) → take (length s - a) (drop a s) ≡ drop a s
+rest-lent a s = rw (← length-drop a s, take-length)
 
 -- ---- the scaled unknowns
 
@@ -134,7 +156,7 @@ part-same s t o k e h = ext-getD nan (part t o k) (part s o k) (simp (length-tak
         part-at t o k i nan m ∙ h i m ∙ sym (part-at s o k i nan m)
 
 module _ (f : List Float → List Float) (s s2 s4 t : List Float) (j n rows x y z a b c : ℕ) (v h : Float)
-    (c-in : c < n) (j-x : j + rows * n ≤ x) (x-y : x + n ≤ y) (y-z : y + n ≤ z) (z-a : z + n ≤ a) (a-b : a + rows ≤ b) (b-s : b + rows ≤ length s)
+    (c-in : c < n) (j-y : j + rows * n ≤ y) (y-z : y + n ≤ z) (z-a : z + n ≤ a) (a-b : a + rows ≤ b) (b-s : b + rows ≤ length s)
     (same : part s y n ≡ part s x n) (v-is : v ≡ getD s (x + c) nan) (h-is : h ≡ stepOf v)
     (up : RowsBy f (set s (y + c) (add binary64 v h)) s2 y n z a rows)
     (down : RowsBy f (set s2 (y + c) (sub binary64 v h)) s4 y n z b rows)
@@ -204,6 +226,7 @@ module _ (f : List Float → List Float) (s s2 s4 t : List Float) (j n rows x y 
         size = col .kept .size ∙ length-set s4 (y + c) v ∙ size4;
         entries = λ i l. col .entries i l ∙ (λ w. slopeOf (plus-at i l w) (minus-at i l w) ((h-is ∙ ap stepOf (sym v-at)) w));
         others = λ i d l k e. col .others i d l k e ∙ before (j + (i * n + d)) (let w = in-rows i d n rows l k in omega arith);
+        below = λ q l. kept-at-below (set s4 (y + c) v) t j (j + rows * n) q nan l (col .kept) ∙ before q (omega arith);
         between = λ q l k. kept-at-above (set s4 (y + c) v) t j (j + rows * n) q nan l (col .kept) ∙ before q k;
       }
 
@@ -213,25 +236,29 @@ module _ (f : List Float → List Float) (s s2 s4 t : List Float) (j n rows x y 
 pub record Columns (f : List Float → List Float) (s t : List Float) (j n rows x z c : ℕ) : Type 0 where
   pub size : length t ≡ length s
   pub entries : (i d : ℕ) → i < rows → d < c → getD t (j + (i * n + d)) nan ≡ slope f (part s x n) i d
+  pub below : (q : ℕ) → q < j → getD t q nan ≡ getD s q nan
   pub between : (q : ℕ) → j + rows * n ≤ q → q < z → getD t q nan ≡ getD s q nan
 
 pub columns-start : (f : List Float → List Float) (s : List Float) (j n rows x z : ℕ) → Columns f s s j n rows x z 0
-columns-start f s j n rows x z = record { size = refl; entries = λ i d h l. absurd (not-suc-le-zero l); between = λ q h l. refl }
+columns-start f s j n rows x z = record { size = refl; entries = λ i d h l. absurd (not-suc-le-zero l); below = λ q h. refl; between = λ q h l. refl }
 
--- the unknowns, and their copy, are as they were
+-- the unknowns below the slopes, and their copy behind them, are as they were
+pub columns-below : (f : List Float → List Float) (s t : List Float) (j n rows x z c : ℕ) → x + n ≤ j → Columns f s t j n rows x z c → part t x n ≡ part s x n
+columns-below f s t j n rows x z c h g = part-same s t x n (g .size) (λ i m. g .below (x + i) (omega arith))
+
 pub columns-part : (f : List Float → List Float) (s t : List Float) (j n rows x z c o : ℕ) → j + rows * n ≤ o → o + n ≤ z → Columns f s t j n rows x z c → part t o n ≡ part s o n
 columns-part f s t j n rows x z c o h l g = part-same s t o n (g .size) (λ i m. g .between (o + i) (omega arith) (omega arith))
 
-pub columns-step : (f : List Float → List Float) (s t u : List Float) (j n rows x z c : ℕ) → c < n → j + rows * n ≤ x → x + n ≤ z → Columns f s t j n rows x z c
+pub columns-step : (f : List Float → List Float) (s t u : List Float) (j n rows x z c : ℕ) → c < n → x + n ≤ j → Columns f s t j n rows x z c
     → SlopeColumnBy f t u j n rows x z c → Columns f s u j n rows x z (c + 1)
-columns-step f s t u j n rows x z c h l m g y =
-    record { size = y .size ∙ g .size; entries = entries; between = λ q k w. y .between q k w ∙ g .between q k w }
+columns-step f s t u j n rows x z c h l g y =
+    record { size = y .size ∙ g .size; entries = entries; below = λ q k. y .below q k ∙ g .below q k; between = λ q k w. y .between q k w ∙ g .between q k w }
   where
     entries : (i d : ℕ) → i < rows → d < c + 1 → getD u (j + (i * n + d)) nan ≡ slope f (part s x n) i d
     entries i d k w =
         elim (eq-or-lt-of-le (le-of-suc-le-suc (rw add-one at w))) [
           | inl e ↦
-              ap (λ (v : ℕ). getD u (j + (i * n + v)) nan) e ∙ y .entries i k ∙ ap (λ (v : List Float). slope f v i c) (columns-part f s t j n rows x z c x l m g)
+              ap (λ (v : ℕ). getD u (j + (i * n + v)) nan) e ∙ y .entries i k ∙ ap (λ (v : List Float). slope f v i c) (columns-below f s t j n rows x z c l g)
               ∙ ap (slope f (part s x n) i) (sym e)
           | inr e ↦ y .others i d k (omega arith) (λ q. absurd (omega arith)) ∙ g .entries i d k e
         ]
@@ -290,35 +317,35 @@ square-step o s rows n at i k v h l m r e q =
       row-step s at k v (columnsTimes (part o 0 (rows * n)) rows n i) (omega arith) (q ∙ same-products o s rows n at (at + n) i k l r) e,
     )
 
--- the first i rows of the square at a are those of the slopes that o has
-abbrev pub Squared : List Float → List Float → ℕ → ℕ → ℕ → ℕ → Type 0
-Squared o s rows n a i = (p k : ℕ) → p < i → k < n → getD s (a + p * n + k) nan ≡ columnsTimes (part o 0 (rows * n)) rows n p k
+-- the first i rows of the square are those of the slopes that o has
+abbrev pub Squared : List Float → List Float → ℕ → ℕ → ℕ → Type 0
+Squared o s rows n i = (p k : ℕ) → p < i → k < n → getD s (rows * n + p * n + k) nan ≡ columnsTimes (part o 0 (rows * n)) rows n p k
 
-pub squared-step : (o s t : List Float) (rows n a i : ℕ) → i < n → rows * n ≤ a → Kept o s a (a + n * n) → Squared o s rows n a i → SquareRow s t rows n a i
-    → Kept o t a (a + n * n) × Squared o t rows n a (i + 1)
-squared-step o s t rows n a i h l r e q =
+pub squared-step : (o s t : List Float) (rows n i : ℕ) → i < n → Kept o s (rows * n) (rows * n + n * n) → Squared o s rows n i → SquareRow s t rows n i
+    → Kept o t (rows * n) (rows * n + n * n) × Squared o t rows n (i + 1)
+squared-step o s t rows n i h r e q =
     let f = row-fits i n n h in
-    (kept-trans o s t a (a + n * n) r (kept-wider s t (a + i * n) (a + i * n + n) a (a + n * n) (omega arith) (omega arith) (q .kept)), more)
+    (kept-trans o s t (rows * n) (rows * n + n * n) r (kept-wider s t (rows * n + i * n) (rows * n + i * n + n) (rows * n) (rows * n + n * n) (omega arith) (omega arith) (q .kept)), more)
   where
-    more : Squared o t rows n a (i + 1)
+    more : Squared o t rows n (i + 1)
     more p k b d =
         elim (eq-or-lt-of-le (le-of-suc-le-suc (rw add-one at b))) [
           | inl z ↦
-              ap (λ (x : ℕ). getD t (a + x * n + k) nan) z ∙ q .entries k d ∙ same-products o s rows n a (a + n * n) i k l r
+              ap (λ (x : ℕ). getD t (rows * n + x * n + k) nan) z ∙ q .entries k d ∙ same-products o s rows n (rows * n) (rows * n + n * n) i k (omega arith) r
               ∙ ap (λ (x : ℕ). columnsTimes (part o 0 (rows * n)) rows n x k) (sym z)
           | inr z ↦
               let g = row-fits p n i z in
-              kept-at-below s t (a + i * n) (a + i * n + n) (a + p * n + k) nan (omega arith) (q .kept) ∙ e p k z d
+              kept-at-below s t (rows * n + i * n) (rows * n + i * n + n) (rows * n + p * n + k) nan (omega arith) (q .kept) ∙ e p k z d
         ]
 
-pub squared-all : (o s : List Float) (rows n a i : ℕ) → i ≡ n → a + n * n ≤ length o → Kept o s a (a + n * n) → Squared o s rows n a i
-    → Put o s a (n * n) (squareOf (part o 0 (rows * n)) rows n)
-squared-all o s rows n a i q h r e =
+pub squared-all : (o s : List Float) (rows n i : ℕ) → i ≡ n → rows * n + n * n ≤ length o → Kept o s (rows * n) (rows * n + n * n) → Squared o s rows n i
+    → Put o s (rows * n) (n * n) (squareOf (part o 0 (rows * n)) rows n)
+squared-all o s rows n i q h r e =
     let z = r .size in
     record {
       holds =
-          table-ext (columnsTimes (part o 0 (rows * n)) rows n) n n (part s a (n * n)) (part-length s a (n * n) (omega arith))
-          (λ p k l m. entry-at s a n p k l m ∙ e p k (rw q l) m);
+          table-ext (columnsTimes (part o 0 (rows * n)) rows n) n n (part s (rows * n) (n * n)) (part-length s (rows * n) (n * n) (omega arith))
+          (λ p k l m. entry-at s (rows * n) n p k l m ∙ e p k (rw q l) m);
       kept = r;
     }
 
@@ -380,24 +407,21 @@ pub rank-some : (jac vals : List Float) (rows n r : ℕ) → eqb rows 0 ≡ fals
     → r ≡ rankRel jac rows n
 rank-some jac vals rows n r e f v q = q ∙ ap rankOf v ∙ rank-values (symEigen n (squareOf jac rows n)) ∙ sym (rank-test jac rows n false (λ j. e j || f j))
 
--- the square's values, in the part that was lent
+-- the square's values, in the rest that was lent from the square on
 pub rank-rel-is : (s s1 q : List Float) (rows n r : ℕ) → rows * n + n * n + n ≤ length s → eqb rows 0 ≡ false → eqb n 0 ≡ false
     → Put s s1 (rows * n) (n * n) (squareOf (part s 0 (rows * n)) rows n)
-    → Values n (take (rows * n + n * n + n - rows * n) (drop (rows * n) s1)) q
-    → r ≡ rankOf (take (rows * n + n * n + n - (rows * n + n * n)) (drop (rows * n + n * n) (putMid (rows * n) (rows * n + n * n + n - rows * n) s1 q)))
+    → Values n (take (length s1 - rows * n) (drop (rows * n) s1)) q
+    → r ≡ rankOf (take (rows * n + n * n + n - (rows * n + n * n)) (drop (rows * n + n * n) (putMid (rows * n) (length s1 - rows * n) s1 q)))
     → r ≡ rankRel (part s 0 (rows * n)) rows n
 rank-rel-is s s1 q rows n r room e f a v ranked =
     let z = a .kept .size in
-    let d : rows * n + n * n + n - rows * n ≡ n * n + n = omega arith in
+    let h : rows * n ≤ length s1 = omega arith in
     let g : rows * n + n * n + n - (rows * n + n * n) ≡ n = omega arith in
-    let l : length q ≡ rows * n + n * n + n - rows * n = v .kept .size ∙ mid-len (rows * n) (rows * n + n * n + n) s1 (omega arith) in
-    let t = putMid (rows * n) (rows * n + n * n + n - rows * n) s1 q in
-    let whole : part t (rows * n) (n * n + n) ≡ q = lent-part s1 q (rows * n) (rows * n + n * n + n) (n * n + n) (omega arith) (l ∙ d) in
-    let own : part (take (rows * n + n * n + n - rows * n) (drop (rows * n) s1)) 0 (n * n) ≡ squareOf (part s 0 (rows * n)) rows n
-    = part-part s1 (rows * n) (rows * n + n * n + n - rows * n) 0 (n * n) (omega arith) ∙ ap (λ (o : ℕ). part s1 o (n * n)) (add-zero (rows * n)) ∙ a .holds in
+    let t = putMid (rows * n) (length s1 - rows * n) s1 q in
     let vals : part t (rows * n + n * n) n ≡ map (λ (e : Eigen). e .value) (symEigen n (squareOf (part s 0 (rows * n)) rows n))
-    = sym (part-part t (rows * n) (n * n + n) (n * n) n (omega arith)) ∙ ap (λ (w : List Float). part w (n * n) n) whole ∙ v .values
-    ∙ ap (λ (w : List Float). map (λ (e : Eigen). e .value) (symEigen n w)) own in
+    = ap (λ (w : List Float). part w (rows * n + n * n) n) (put-tail (rows * n) s1 q h) ∙ tail-part (rows * n) s1 q (n * n) n h ∙ v .values
+    ∙ ap (λ (w : List Float). map (λ (e : Eigen). e .value) (symEigen n (part w 0 (n * n)))) (rest-lent (rows * n) s1)
+    ∙ ap (λ (w : List Float). map (λ (e : Eigen). e .value) (symEigen n w)) (a .holds) in
     rank-some (part s 0 (rows * n)) (part t (rows * n + n * n) n) rows n r e f vals (ranked ∙ ap (λ (k : ℕ). rankOf (take k (drop (rows * n + n * n) t))) g)
 
 -- ---- free bodies that no relation names
@@ -469,18 +493,36 @@ unnamed-small fixed (some k) = omega arith
 pub zeros-twice : (s s1 s2 : List Float) (x y n : ℕ) → x + n ≤ y → Put s s1 x n (zeros n) → Put s1 s2 y n (zeros n) → part s2 y n ≡ part s2 x n
 zeros-twice s s1 s2 x y n h a b = b .holds ∙ sym (kept-part-below s1 s2 y (y + n) x n h (b .kept) ∙ a .holds)
 
-pub total-is : (sheet : List ℕ) (c : SceneStruct) (s s1 s2 s3 : List Float) (x y rank unused : ℕ) → Laid sheet c → x + c .n ≤ y
-    → Put s s1 x (c .n) (zeros (c .n)) → Put s1 s2 y (c .n) (zeros (c .n))
-    → SlopesBy (scaledRows (sceneOf sheet c)) s2 s3 0 (c .n) (c .rows) x
-    → rank ≡ rankRel (part s3 0 (c .rows * c .n)) (c .rows) (c .n)
-    → unused ≡ unnamedFrom (sceneOf sheet c .rels) 0 (sceneOf sheet c .bodies)
-    → c .n - min rank (c .n) + unused ≡ totalFreedom (sceneOf sheet c)
-unfolding totalFreedom
-total-is sheet c s s1 s2 s3 x y rank unused laid h a b d r u =
-    let sc = sceneOf sheet c in
-    let zeros-at : part s2 x (c .n) ≡ zeros (c .n) = kept-part-below s1 s2 y (y + c .n) x (c .n) h (b .kept) ∙ a .holds in
-    let jac : part s3 0 (c .rows * c .n) ≡ jacobian (scaledRows sc) (zeros (c .n)) (c .rows) = d .holds ∙ ap (λ (w : List Float). jacobian (scaledRows sc) w (c .rows)) zeros-at in
-    let n-is : c .n ≡ unknowns sc = laid .unknown-count in
-    let rows-is : c .rows ≡ length (scaledRows sc (zeros (unknowns sc))) = sym (laid .row-count _) in
-    (λ j. c .n - min ((r ∙ ap (λ (w : List Float). rankRel w (c .rows) (c .n)) jac) j) (c .n) + u j)
-    ∙ (λ j. n-is j - min (rankRel (jacobian (scaledRows sc) (zeros (n-is j)) (rows-is j)) (rows-is j) (n-is j)) (n-is j) + unnamedFrom (sc .rels) 0 (sc .bodies))
+-- what slope filling asks, of the whole scratch lent to it
+pub slopes-ready : (c : SceneStruct) (p : TotalPartsStruct) (s s1 s2 : List Float) → TotalApart c p (length s) → Put s s1 0 (c .n) (zeros (c .n)) → Put s1 s2 (p .next) (c .n) (zeros (c .n))
+    → TotalApart c p (length (take (length s2 - 0) (drop 0 s2))) × (part (take (length s2 - 0) (drop 0 s2)) (p .next) (c .n) ≡ part (take (length s2 - 0) (drop 0 s2)) 0 (c .n))
+slopes-ready c p s s1 s2 h a b =
+    subst (λ (w : List Float). TotalApart c p (length w) × (part w (p .next) (c .n) ≡ part w 0 (c .n))) (sym (rest-lent 0 s2))
+    (still-apart c p (length s) (length s2) (b .kept .size ∙ a .kept .size) h, zeros-twice s s1 s2 0 (p .next) (c .n) (omega arith) a b)
+
+module _ (sheet : List ℕ) (c : SceneStruct) (p : TotalPartsStruct) (s s1 s2 q : List Float) (rank unused : ℕ) (laid : Laid sheet c) (fits : TotalApart c p (length s))
+    (a : Put s s1 0 (c .n) (zeros (c .n))) (b : Put s1 s2 (p .next) (c .n) (zeros (c .n)))
+    (d : SlopesBy (scaledRows (sceneOf sheet c)) (take (length s2 - 0) (drop 0 s2)) q (p .slopes) (c .n) (c .rows) 0)
+    (r : rank ≡ rankRel (part (take (length (putMid 0 (length s2 - 0) s2 q) - p .slopes) (drop (p .slopes) (putMid 0 (length s2 - 0) s2 q))) 0 (c .rows * c .n)) (c .rows) (c .n))
+    (u : unused ≡ unnamedFrom (sceneOf sheet c .rels) 0 (sceneOf sheet c .bodies)) where
+  zeros-at : part (take (length s2 - 0) (drop 0 s2)) 0 (c .n) ≡ zeros (c .n)
+  zeros-at =
+      ap (λ (w : List Float). part w 0 (c .n)) (rest-lent 0 s2) ∙ kept-part-below s1 s2 (p .next) (p .next + c .n) 0 (c .n) (omega arith) (b .kept) ∙ a .holds
+
+  -- the slopes are what the rank is lent first
+  slopes-lent : part (take (length (putMid 0 (length s2 - 0) s2 q) - p .slopes) (drop (p .slopes) (putMid 0 (length s2 - 0) s2 q))) 0 (c .rows * c .n)
+      ≡ jacobian (scaledRows (sceneOf sheet c)) (zeros (c .n)) (c .rows)
+  slopes-lent =
+      ap (λ (w : List Float). part w 0 (c .rows * c .n)) (rest-lent (p .slopes) (putMid 0 (length s2 - 0) s2 q))
+      ∙ ap (λ (w : List Float). part w (p .slopes) (c .rows * c .n)) (put-tail 0 s2 q (omega arith))
+      ∙ d .holds
+      ∙ ap (λ (w : List Float). jacobian (scaledRows (sceneOf sheet c)) w (c .rows)) zeros-at
+
+  pub total-is : c .n - min rank (c .n) + unused ≡ totalFreedom (sceneOf sheet c)
+  unfolding totalFreedom
+  total-is =
+      let sc = sceneOf sheet c in
+      let n-is : c .n ≡ unknowns sc = laid .unknown-count in
+      let rows-is : c .rows ≡ length (scaledRows sc (zeros (unknowns sc))) = sym (laid .row-count _) in
+      (λ j. c .n - min ((r ∙ ap (λ (w : List Float). rankRel w (c .rows) (c .n)) slopes-lent) j) (c .n) + u j)
+      ∙ (λ j. n-is j - min (rankRel (jacobian (scaledRows sc) (zeros (n-is j)) (rows-is j)) (rows-is j) (n-is j)) (n-is j) + unnamedFrom (sc .rels) 0 (sc .bodies))

@@ -19,7 +19,7 @@ need c = c .rows * c .n + 2 * (c .n * c .n) + 8 * c .rows + 8 * c .n + 32 * c .m
 abbrev pub bodyNeed : SceneStruct → ℕ
 bodyNeed c = bodyParts c .poses + 12 * c .m
 
--- the freedom of body i has been filled in; the starting poses still stand in scratch
+-- the freedom of body i has been filled in; the starting poses still stand in scratch, and what else stands there is open
 pub record BodyFreed (sc : Scene) (s t : List Float) (p m i : ℕ) (d e : List Float) (f : Freedom) : Type 0 where
   pub size : length t ≡ length s
   pub poses : posesIn t p m ≡ starts sc

@@ -36,7 +36,7 @@ unfolding sweptTo
 swept n zero m = m
 swept n (suc k) m = elim (settled m n) [ true ↦ m | false ↦ swept n k (sweptTo n m n) ]
 
--- the values of the matrix in the first places of s have come to stand behind it, in rising order
+-- the values of the matrix in the first places of s have come to stand behind it, in rising order; what stands in the matrix's places is open
 pub record Values (n : ℕ) (s t : List Float) : Type 0 where
   pub values : part t (n * n) n ≡ map (λ (e : Eigen). e .value) (symEigen n (part s 0 (n * n)))
   pub kept : Kept s t 0 (n * n + n)

@@ -1,4 +1,4 @@
 // `dof` of solve.rs: each body's freedom and the whole assembly's.
 pub mod dof;
-pub mod total;
-pub mod values;
+mod total;
+mod values;

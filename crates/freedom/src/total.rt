@@ -9,6 +9,7 @@ ghost use Rattle.least_squares.specs.Memory.{part};
 ghost use Rattle.records.specs.Record.{bodyAt};
 ghost use Rattle.scene.specs.Scene.{Laid, sceneOf, firstUnknown, Put};
 ghost use Rattle.scene.specs.Solve.{layout, halfSize};
+ghost use Rattle.freedom.specs.Freed.{need};
 ghost use Rattle.freedom.specs.Total as spec;
 use crate::values::values;
 use least_squares::lm::copy;
@@ -20,6 +21,41 @@ use slopes::slopes::put_column;
 use slopes::slopes::step_of;
 use vectors::root::sqrt;
 use vectors::tol::DOF_REL;
+
+// Where the parts of the scratch stand. In order, with R rows and n unknowns of m bodies: n unknowns from 0 on, R·n slopes, n² of their square, its n values, n for `next`,
+// n for `scaled`, R for `ahead`, R for `behind`, 12m for `poses`. `TotalApart` says what each is for.
+struct TotalParts {
+    slopes: usize,
+    next: usize,
+    scaled: usize,
+    ahead: usize,
+    behind: usize,
+    poses: usize,
+}
+
+// The parts, each from where the last ended.
+fn total_parts(scene: Scene) -> TotalParts
+    requires { ⌜ (scene .rows ≤ 896) × (scene .n ≤ 384) ⌝ }
+    ensures { λ parts. ⌜ parts ≡ spec.totalParts scene ⌝ }
+{
+    let n = scene.n;
+    let rows = scene.rows;
+    let square = n + rows * n;
+    let values = square + n * n;
+    let next = values + n;
+    let scaled = next + n;
+    let ahead = scaled + n;
+    let behind = ahead + rows;
+    let poses = behind + rows;
+    TotalParts {
+        slopes: n,
+        next,
+        scaled,
+        ahead,
+        behind,
+        poses,
+    }
+}
 
 // The three doubles from o on over l.
 fn divide(s: &mut [f64], o: usize, l: f64)
@@ -71,83 +107,56 @@ fn scale(sheet: &[u8], scene: Scene, s: &mut [f64], z: usize)
     }
 }
 
-// The rows at the unknowns from x on, the turning ones scaled, to the places from r on; the scaled unknowns from z on, poses from p on.
-fn scaled_rows(sheet: &[u8], scene: Scene, s: &mut [f64], x: usize, z: usize, r: usize, p: usize)
+// The rows at the unknowns from `next` on, the turning ones scaled, to the places from r on.
+fn scaled_rows(sheet: &[u8], scene: Scene, s: &mut [f64], parts: TotalParts, r: usize)
     requires { ⌜ Laid (now sheet) scene ⌝ }
-    requires { ⌜ x + scene .n ≤ z ⌝ }
-    requires { ⌜ z + scene .n ≤ r ⌝ }
-    requires { ⌜ r + scene .rows ≤ p ⌝ }
-    requires { ⌜ p + 12 * scene .m ≤ length (now s) ⌝ }
-    ensures { λ _. ⌜ spec.RowsBy (dof.scaledRows (sceneOf (now (sheet .entry)) scene)) (now (s .entry)) (now (s .exit)) x (scene .n) z r (scene .rows) ⌝ }
+    requires { ⌜ spec.TotalApart scene parts (length (now s)) ⌝ }
+    requires { ⌜ (parts .ahead ≤ r) × (r + scene .rows ≤ parts .poses) ⌝ }
+    ensures { λ _. ⌜ spec.RowsBy (dof.scaledRows (sceneOf (now (sheet .entry)) scene)) (now (s .entry)) (now (s .exit)) (parts .next) (scene .n) (parts .scaled) r (scene .rows) ⌝ }
 {
-    copy(s, x, z, scene.n);
-    scale(sheet, scene, s, z);
-    rows_at(sheet, scene, s, z, r, p);
+    copy(s, parts.next, parts.scaled, scene.n);
+    scale(sheet, scene, s, parts.scaled);
+    rows_at(sheet, scene, s, parts.scaled, r, parts.poses);
 }
 
-// Column c of the slopes at the unknowns from x on; y is a copy of the unknowns, in which the unknown c goes a step ahead and a step behind.
-fn slope_column(
-    sheet: &[u8],
-    scene: Scene,
-    s: &mut [f64],
-    j: usize,
-    x: usize,
-    y: usize,
-    z: usize,
-    a: usize,
-    b: usize,
-    p: usize,
-    c: usize,
-)
+// Column c of the slopes at the unknowns from 0 on. In the copy of the unknowns at `next` the unknown c goes a step ahead and a step behind.
+fn slope_column(sheet: &[u8], scene: Scene, s: &mut [f64], parts: TotalParts, c: usize)
     requires { ⌜ Laid (now sheet) scene ⌝ }
     requires { ⌜ c < scene .n ⌝ }
-    requires { ⌜ j + scene .rows * scene .n ≤ x ⌝ }
-    requires { ⌜ x + scene .n ≤ y ⌝ }
-    requires { ⌜ y + scene .n ≤ z ⌝ }
-    requires { ⌜ z + scene .n ≤ a ⌝ }
-    requires { ⌜ a + scene .rows ≤ b ⌝ }
-    requires { ⌜ b + scene .rows ≤ p ⌝ }
-    requires { ⌜ p + 12 * scene .m ≤ length (now s) ⌝ }
-    requires { ⌜ part (now s) y (scene .n) ≡ part (now s) x (scene .n) ⌝ }
-    ensures { λ _. ⌜ spec.SlopeColumnBy (dof.scaledRows (sceneOf (now (sheet .entry)) scene)) (now (s .entry)) (now (s .exit)) j (scene .n) (scene .rows) x z c ⌝ }
+    requires { ⌜ spec.TotalApart scene parts (length (now s)) ⌝ }
+    requires { ⌜ part (now s) (parts .next) (scene .n) ≡ part (now s) 0 (scene .n) ⌝ }
+    ensures { λ _. ⌜ spec.SlopeColumnBy (dof.scaledRows (sceneOf (now (sheet .entry)) scene)) (now (s .entry)) (now (s .exit)) (parts .slopes) (scene .n) (scene .rows) 0 (parts .scaled) c ⌝ }
 {
-    let v = s[x + c];
+    let at = parts.next + c;
+    let v = s[c];
     let h = step_of(v);
-    s[y + c] = v + h;
-    scaled_rows(sheet, scene, s, y, z, a, p);
-    s[y + c] = v - h;
-    scaled_rows(sheet, scene, s, y, z, b, p);
-    s[y + c] = v;
-    put_column(s, j, scene.n, scene.rows, c, a, b, h);
+    s[at] = v + h;
+    scaled_rows(sheet, scene, s, parts, parts.ahead);
+    s[at] = v - h;
+    scaled_rows(sheet, scene, s, parts, parts.behind);
+    s[at] = v;
+    put_column(
+        s,
+        parts.slopes,
+        scene.n,
+        scene.rows,
+        c,
+        parts.ahead,
+        parts.behind,
+        h,
+    );
 }
 
-// The slopes of the scaled rows at the unknowns from x on, to the places from j on: scaled unknowns at z, rows ahead at a, rows behind at b, poses at p; y is a copy of the unknowns.
-fn slopes(
-    sheet: &[u8],
-    scene: Scene,
-    s: &mut [f64],
-    j: usize,
-    x: usize,
-    y: usize,
-    z: usize,
-    a: usize,
-    b: usize,
-    p: usize,
-)
+// The slopes of the scaled rows at the unknowns from 0 on; a copy of the unknowns stands at `next`. What stands behind the slopes afterwards is open: it is scratch.
+fn slopes(sheet: &[u8], scene: Scene, s: &mut [f64], parts: TotalParts)
     requires { ⌜ Laid (now sheet) scene ⌝ }
-    requires { ⌜ j + scene .rows * scene .n ≤ x ⌝ }
-    requires { ⌜ x + scene .n ≤ y ⌝ }
-    requires { ⌜ y + scene .n ≤ z ⌝ }
-    requires { ⌜ z + scene .n ≤ a ⌝ }
-    requires { ⌜ a + scene .rows ≤ b ⌝ }
-    requires { ⌜ b + scene .rows ≤ p ⌝ }
-    requires { ⌜ p + 12 * scene .m ≤ length (now s) ⌝ }
-    requires { ⌜ part (now s) y (scene .n) ≡ part (now s) x (scene .n) ⌝ }
-    ensures { λ _. ⌜ spec.SlopesBy (dof.scaledRows (sceneOf (now (sheet .entry)) scene)) (now (s .entry)) (now (s .exit)) j (scene .n) (scene .rows) x ⌝ }
+    requires { ⌜ spec.TotalApart scene parts (length (now s)) ⌝ }
+    requires { ⌜ part (now s) (parts .next) (scene .n) ≡ part (now s) 0 (scene .n) ⌝ }
+    ensures { λ _. ⌜ spec.SlopesBy (dof.scaledRows (sceneOf (now (sheet .entry)) scene)) (now (s .entry)) (now (s .exit)) (parts .slopes) (scene .n) (scene .rows) 0 ⌝ }
 {
     let n = scene.n;
     for c in 0..n {
-        slope_column(sheet, scene, s, j, x, y, z, a, b, p, c);
+        slope_column(sheet, scene, s, parts, c);
     }
 }
 
@@ -176,28 +185,26 @@ fn columns_times(s: &[f64], rows: usize, n: usize, i: usize, j: usize) -> f64
     t
 }
 
-// Row i of the slopes' square, which stands at o.
-fn square_row(s: &mut [f64], rows: usize, n: usize, o: usize, i: usize)
+// Row i of the slopes' square, which stands behind the slopes.
+fn square_row(s: &mut [f64], rows: usize, n: usize, i: usize)
     requires { ⌜ i < n ⌝ }
-    requires { ⌜ rows * n ≤ o ⌝ }
-    requires { ⌜ o + n * n ≤ length (now s) ⌝ }
-    ensures { λ _. ⌜ spec.SquareRow (now (s .entry)) (now (s .exit)) rows n o i ⌝ }
+    requires { ⌜ rows * n + n * n ≤ length (now s) ⌝ }
+    ensures { λ _. ⌜ spec.SquareRow (now (s .entry)) (now (s .exit)) rows n i ⌝ }
 {
-    let at = o + i * n;
+    let at = rows * n + i * n;
     for k in 0..n {
         let v = columns_times(s, rows, n, i, k);
         s[at + k] = v;
     }
 }
 
-// The square of the slopes in the first places: each column times each, to the places from o on.
-fn square(s: &mut [f64], rows: usize, n: usize, o: usize)
-    requires { ⌜ rows * n ≤ o ⌝ }
-    requires { ⌜ o + n * n ≤ length (now s) ⌝ }
-    ensures { λ _. ⌜ Put (now (s .entry)) (now (s .exit)) o (n * n) (dof.squareOf (part (now (s .entry)) 0 (rows * n)) rows n) ⌝ }
+// The square of the slopes in the first places: each column times each, to the places behind them.
+fn square(s: &mut [f64], rows: usize, n: usize)
+    requires { ⌜ rows * n + n * n ≤ length (now s) ⌝ }
+    ensures { λ _. ⌜ Put (now (s .entry)) (now (s .exit)) (rows * n) (n * n) (dof.squareOf (part (now (s .entry)) 0 (rows * n)) rows n) ⌝ }
 {
     for i in 0..n {
-        square_row(s, rows, n, o, i);
+        square_row(s, rows, n, i);
     }
 }
 
@@ -245,7 +252,7 @@ fn rank_of(vals: &[f64]) -> usize
     stiff_count(most, vals)
 }
 
-// `rank_rel` of the slopes in the first places; their square and its values stand behind them.
+// `rank_rel` of the slopes in the first places; their square and its values stand behind them. What stands there afterwards is open: it is scratch.
 fn rank_rel(s: &mut [f64], rows: usize, n: usize) -> usize
     requires { ⌜ rows * n + n * n + n ≤ length (now s) ⌝ }
     ensures { λ r. ⌜ r ≡ dof.rankRel (part (now (s .entry)) 0 (rows * n)) rows n ⌝ }
@@ -259,8 +266,8 @@ fn rank_rel(s: &mut [f64], rows: usize, n: usize) -> usize
     let o = rows * n;
     let v = o + n * n;
     let e = v + n;
-    square(s, rows, n, o);
-    values(&mut s[o..e], n);
+    square(s, rows, n);
+    values(&mut s[o..], n);
     rank_of(&s[v..e])
 }
 
@@ -289,25 +296,21 @@ fn unnamed(sheet: &[u8], scene: Scene) -> usize
     count
 }
 
-// The freedom of the whole assembly: the unknowns that no row resists, and six for each free body that no relation names.
+// The freedom of the whole assembly: the unknowns that no row resists, and six for each free body that no relation names. What stands in the scratch afterwards is open.
 pub fn total(sheet: &[u8], scene: Scene, s: &mut [f64]) -> usize
     requires { ⌜ Laid (now sheet) scene ⌝ }
     requires { ⌜ (scene .rows ≤ 896) × (scene .n ≤ 384) ⌝ }
-    requires { ⌜ scene .rows * scene .n + 2 * (scene .n * scene .n) + 8 * scene .rows + 8 * scene .n + 32 * scene .m ≤ length (now s) ⌝ }
-    ensures { λ r. ⌜ (r ≡ dof.totalFreedom (sceneOf (now (sheet .entry)) scene)) × (length (now (s .exit)) ≡ length (now (s .entry))) ⌝ }
+    requires { ⌜ need scene ≤ length (now s) ⌝ }
+    ensures { λ r. ⌜ spec.Counted (sceneOf (now (sheet .entry)) scene) (now (s .entry)) (now (s .exit)) r ⌝ }
 {
     let n = scene.n;
-    let rows = scene.rows;
-    let x = rows * n + n * n + n;
-    let y = x + n;
-    let z = y + n;
-    let a = z + n;
-    let b = a + rows;
-    let p = b + rows;
+    let parts = total_parts(scene);
+    let x = 0;
     clear(s, x, n);
-    clear(s, y, n);
-    slopes(sheet, scene, s, 0, x, y, z, a, b, p);
-    let rank = rank_rel(s, rows, n);
+    clear(s, parts.next, n);
+    slopes(sheet, scene, &mut s[x..], parts);
+    let at = parts.slopes;
+    let rank = rank_rel(&mut s[at..], scene.rows, n);
     let unused = unnamed(sheet, scene);
     if rank < n { n - rank + unused } else { unused }
 }

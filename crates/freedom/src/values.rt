@@ -112,7 +112,8 @@ fn sort(vals: &mut [f64])
     }
 }
 
-// The eigenvalues of the symmetric n by n matrix in the first places, in rising order to the n places behind it. The matrix is turned on the way.
+// The eigenvalues of the symmetric n by n matrix in the first places, in rising order to the n places behind it. The matrix is turned on the way: what stands in
+// its places afterwards is open, they are scratch.
 pub fn values(s: &mut [f64], n: usize)
     requires { ⌜ n * n + n ≤ length (now s) ⌝ }
     ensures { λ _. ⌜ spec.Values n (now (s .entry)) (now (s .exit)) ⌝ }

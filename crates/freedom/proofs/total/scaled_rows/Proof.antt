@@ -21,7 +21,7 @@ same-length c = c .before .before .rows-at .ensures .size ∙ c .before .before 
 returns : tie.Need-returns
 returns c =
     let g = c .before .before .before .before .before .before .before .before .before .before .before .before .before .before .args in
-    scaled-rows-is (sceneOf (g .sheet .now) (g .scene)) (g .s .now) _ _ _ (g .x) (g .scene .n) (g .z) (g .r) (g .scene .rows) (g .p) (c .before .before .before .before .before .before .before .before .before .before .before .before .before .before .pre .1 .1 .0) (c .before .before .before .before .before .before .before .before .before .before .copy .ensures) (c .before .before .before .before .before .before .scale .ensures) (c .before .before .rows-at .ensures)
+    scaled-rows-is (sceneOf (g .sheet .now) (g .scene)) (g .s .now) _ _ _ (g .parts .next) (g .scene .n) (g .parts .scaled) (g .r) (g .scene .rows) (g .parts .poses) (omega (arith, c .before .before .before .before .before .before .before .before .before .before .before .before .before .before .pre .1)) (c .before .before .before .before .before .before .before .before .before .before .copy .ensures) (c .before .before .before .before .before .before .scale .ensures) (c .before .before .rows-at .ensures)
 
 pub scaled-rows-spec : {M : Type 1} → statement M
 scaled-rows-spec =

@@ -10,10 +10,10 @@ use Rattle.freedom.proofs.total.square.Statement.{statement}
 use Rattle.freedom.proofs.total.square.Tie as tie
 
 abbrev Inv-loop : tie.InvT-loop
-Inv-loop s₀ rows n o i₀ s i = (i ≤ n) × Kept s₀ s o (o + n * n) × Squared s₀ s rows n o i
+Inv-loop s₀ rows n i₀ s i = (i ≤ n) × Kept s₀ s (rows * n) (rows * n + n * n) × Squared s₀ s rows n i
 
 abbrev μ-loop : tie.MeasureT-loop
-μ-loop s₀ rows n o i₀ s i = n - i
+μ-loop s₀ rows n i₀ s i = n - i
 
 loop-holds : tie.Need-loop-holds Inv-loop μ-loop
 loop-holds c = (omega arith, kept-refl _ _ _, λ p k l m. absurd (not-suc-le-zero l))
@@ -31,7 +31,7 @@ loop-again : tie.Need-loop-again Inv-loop μ-loop
 loop-again c =
     let l = c .before .before .before .before .before .loop in
     let a = c .before .before .before .before .before .before .before .args in
-    let r = squared-step (a .s .now) (l .s) (c .before .before .square-row .last .0) (a .rows) (a .n) (a .o) (l .i) (omega arith) (omega arith) (l .inv .1) (l .inv .2) (c .before .before .square-row .ensures) in
+    let r = squared-step (a .s .now) (l .s) (c .before .before .square-row .last .0) (a .rows) (a .n) (l .i) (omega arith) (l .inv .1) (l .inv .2) (c .before .before .square-row .ensures) in
     (omega arith, r .0, r .1)
 
 same-length : tie.Need-same-length Inv-loop μ-loop
@@ -40,7 +40,7 @@ same-length c = c .before .loop .inv .1 .size
 returns : tie.Need-returns Inv-loop μ-loop
 returns c =
     let e : c .before .loop .i ≡ c .before .before .before .args .n = omega arith in
-    squared-all (c .before .before .before .args .s .now) (c .before .loop .s) (c .before .before .before .args .rows) (c .before .before .before .args .n) (c .before .before .before .args .o) (c .before .loop .i) e (omega arith) (c .before .loop .inv .1) (c .before .loop .inv .2)
+    squared-all (c .before .before .before .args .s .now) (c .before .loop .s) (c .before .before .before .args .rows) (c .before .before .before .args .n) (c .before .loop .i) e (omega arith) (c .before .loop .inv .1) (c .before .loop .inv .2)
 
 pub square-spec : {M : Type 1} → statement M
 square-spec =

@@ -14,13 +14,16 @@ use Rattle.freedom.proofs.total.square_row.Statement.{statement}
 use Rattle.freedom.proofs.total.square_row.Tie as tie
 
 abbrev Inv-loop : tie.InvT-loop
-Inv-loop s₀ rows n o i at k₀ s k = (k ≤ n) × Kept s₀ s (o + i * n) (o + i * n + n) × ((j : ℕ) → j < k → getD s (o + i * n + j) nan ≡ columnsTimes (part s₀ 0 (rows * n)) rows n i j)
+Inv-loop s₀ rows n i at k₀ s k = (k ≤ n) × Kept s₀ s (rows * n + i * n) (rows * n + i * n + n) × ((j : ℕ) → j < k → getD s (rows * n + i * n + j) nan ≡ columnsTimes (part s₀ 0 (rows * n)) rows n i j)
 
 abbrev μ-loop : tie.MeasureT-loop
-μ-loop s₀ rows n o i at k₀ s k = n - k
+μ-loop s₀ rows n i at k₀ s k = n - k
 
 mul-at : tie.Need-mul-at Inv-loop μ-loop
 mul-at c = omega (arith, row-within (c .before .pre .0))
+
+mul-at-2 : tie.Need-mul-at-2 Inv-loop μ-loop
+mul-at-2 c = omega (arith, row-within (c .before .pre .0))
 
 add-at : tie.Need-add-at Inv-loop μ-loop
 add-at c = omega (arith, row-within (c .before .pre .0))
@@ -51,7 +54,7 @@ loop-again c =
     let l = c .before .before .before .loop in
     let a = c .before .before .before .before .before .args in
     let w = row-within (c .before .before .before .before .before .pre .0) in
-    let r = square-step (a .s .now) (l .s) (a .rows) (a .n) (a .o + a .i * a .n) (a .i) (l .k) (c .columns-times .result) (omega arith) (omega arith) (omega arith) (l .inv .1) (l .inv .2) (c .columns-times .ensures) in
+    let r = square-step (a .s .now) (l .s) (a .rows) (a .n) (a .rows * a .n + a .i * a .n) (a .i) (l .k) (c .columns-times .result) (omega arith) (omega arith) (omega arith) (l .inv .1) (l .inv .2) (c .columns-times .ensures) in
     (omega arith, r .0, r .1)
 
 same-length : tie.Need-same-length Inv-loop μ-loop
@@ -69,6 +72,7 @@ square-row-spec =
     Inv-loop
     μ-loop
     mul-at
+    mul-at-2
     add-at
     loop-holds
     columns-times-requires
