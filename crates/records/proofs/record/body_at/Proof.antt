@@ -27,7 +27,7 @@ double-at-requires c κs = search needs
 
 returns : tie.Need-returns
 unfolding bodyAt
-returns c = cc
+returns c = rw (c .double-at .ensures, c .before .vec-at .ensures, c .before .before .before .frame-at .ensures)
 
 pub body-at-spec : {M : Type 1} → statement M
 body-at-spec =

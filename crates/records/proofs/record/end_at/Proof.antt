@@ -51,7 +51,11 @@ shared-slice-read-t19 c = search needs
 
 returns : tie.Need-returns
 unfolding endAt
-returns c = cc
+returns c =
+    let prim = c .before .before in
+    let vecs = prim .before .before in
+    let place = vecs .before .before .before in
+    rw (c .before .double-at2 .ensures, prim .prim-of .ensures, prim .before .double-at .ensures, vecs .vec-at2 .ensures, vecs .before .vec-at .ensures, place .place-of .ensures, place .before .u16-at .ensures .0)
 
 pub end-at-spec : {M : Type 1} → statement M
 end-at-spec =
