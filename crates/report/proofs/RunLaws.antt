@@ -13,7 +13,8 @@ use Rattle.body_freedom.specs.Layout.{freedomsDoubles}
 use Rattle.format.specs.Format.{bodiesOf, relationsOf}
 use Rattle.format.specs.Faults.{sheetFault}
 use Rattle.refusals.specs.Refusals.{solveFault, dofFault}
-use Rattle.sheet.specs.Solving.{flagOf, solutionOf, SolveAnswer}
+use Rattle.records.specs.Numbers.{flagNumber}
+use Rattle.sheet.specs.Solving.{solutionOf, SolveAnswer}
 use Rattle.sheet.specs.Freedoms.{freedomsOf, DofAnswer}
 use Rattle.format.proofs.RefusalLaws.{first, later}
 use Rattle.refusals.proofs.NumberLaws.{solve-le, dof-le}
@@ -105,7 +106,7 @@ answer-printed : (s : List ℕ) → numberOf s ≡ 0 → answerOf s ≡ reportOf
 unfolding reportOf
 answer-printed s e = sym (ap (λ (t : Bool). cond t (answerOf s) (refusedText (numberOf s))) (eq-eqb (numberOf s) 0 e))
 
-flag-back : (b : Bool) (n : ℕ) → n ≡ flagOf b → eqb n 1 ≡ b
+flag-back : (b : Bool) (n : ℕ) → n ≡ flagNumber b → eqb n 1 ≡ b
 flag-back true n e = eq-eqb n 1 e
 flag-back false n e = ne-eqb n 1 (λ q. omega arith)
 
@@ -135,7 +136,7 @@ module _ (s : List ℕ) (q : ℕ) (scratch scratch' poses poses' frames frames' 
   converged-is : eqb flag' 1 ≡ solutionOf s 65535 .converged
   converged-is =
       flag-back (solutionOf s 65535 .converged) flag'
-      (x .flag-is ∙ ap (λ (b : Bool). cond b (flagOf (solutionOf s 65535 .converged)) flag) (eq-eqb q 0 z))
+      (x .flag-is ∙ ap (λ (b : Bool). cond b (flagNumber (solutionOf s 65535 .converged)) flag) (eq-eqb q 0 z))
 
   errors-are : errors' ≡ solutionOf s 65535 .errors ++ drop (relationsOf s) errors
   errors-are = x .errors-are ∙ ap (λ (b : Bool). cond b (solutionOf s 65535 .errors ++ drop (relationsOf s) errors) errors) (eq-eqb q 0 z)

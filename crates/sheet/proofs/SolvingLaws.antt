@@ -10,7 +10,8 @@ use lib.ListN.{length}
 use lib.Dec.{leb}
 use lib.Ieee.{Float}
 use borrow.Author.Tests.{leb-true, eq-eqb, ne-eqb}
-use Rattle.records.specs.Numbers.{GROUND}
+use Rattle.records.specs.Numbers.{flagNumber, GROUND, byNumber}
+use Rattle.records.specs.Record.{bodyNumberAt}
 use Rattle.scene.specs.Scene.{Laid, SceneMade, sceneOf}
 use Rattle.scene.specs.declared.scene.Scene.{Scene as SceneStruct}
 use Rattle.placement.specs.Answer.{Filled}
@@ -20,7 +21,7 @@ use Rattle.format.specs.Format.{bodiesOf, relationsOf}
 use Rattle.refusals.specs.SceneAt.{sceneAt}
 use Rattle.format.specs.Faults.{unless, sheetFault}
 use Rattle.refusals.specs.Refusals.{dragFault, solveScratch, solveFault}
-use Rattle.sheet.specs.Solving.{dragOf, flagOf, SolveAnswer}
+use Rattle.sheet.specs.Solving.{dragOf, SolveAnswer}
 use Rattle.format.proofs.RefusalLaws.{none-of}
 use Rattle.refusals.proofs.FigureLaws.{few, row-count, scene-is, unknown-count}
 use Rattle.sheet.proofs.LimitLaws.{all-small}
@@ -28,11 +29,11 @@ use Rattle.sheet.proofs.LimitLaws.{all-small}
 -- ---- the dragged body
 
 pub drag-ground : (drag : ℕ) → drag ≡ GROUND → none ≡ dragOf drag
-unfolding dragOf
+unfolding bodyNumberAt byNumber
 drag-ground drag e = rw (eq-eqb drag GROUND e)
 
 pub drag-body : (drag : ℕ) → (drag ≡ GROUND → ⊥) → some drag ≡ dragOf drag
-unfolding dragOf
+unfolding bodyNumberAt byNumber
 drag-body drag ne = rw (ne-eqb drag GROUND ne)
 
 -- ---- what an accepted call says
@@ -97,7 +98,7 @@ module _ (s : List ℕ) (c : SceneStruct) (made : SceneMade s 24 (bodiesOf s) (2
 module _ (s : List ℕ) (drag : ℕ) (scratch scratch' poses poses' frames frames' errors errors' : List Float) (flag flag' : ℕ) where
   pub answered : (f : ℕ) (c : SceneStruct) (place : Option ℕ) (ok : Bool) → f ≡ solveFault s drag (length scratch) (length poses) (length frames) (length errors) → f ≡ 0
       → SceneMade s 24 (bodiesOf s) (24 + 136 * bodiesOf s) (relationsOf s) c → place ≡ dragOf drag → length scratch' ≡ length scratch
-      → Filled (sceneOf s c) place (c .m) (c .k) poses poses' frames frames' errors errors' ok → flag' ≡ flagOf ok
+      → Filled (sceneOf s c) place (c .m) (c .k) poses poses' frames frames' errors errors' ok → flag' ≡ flagNumber ok
       → SolveAnswer s drag 0 scratch scratch' poses poses' frames frames' errors errors' flag flag'
   answered f c place ok e z made d size filled fl =
       let a = accepted s drag (length scratch) (length poses) (length frames) (length errors) (sym e ∙ z) in
@@ -108,7 +109,7 @@ module _ (s : List ℕ) (drag : ℕ) (scratch scratch' poses poses' frames frame
         poses-are = w .poses-are;
         frames-are = w .frames-are;
         errors-are = w .errors-are;
-        flag-is = fl ∙ ap (λ (b : Bool). flagOf b) (w .converged);
+        flag-is = fl ∙ ap (λ (b : Bool). flagNumber b) (w .converged);
         scratch-kept = λ ne. absurd (ne refl);
         scratch-size = size;
         closely = λ q. how-closely (sceneAt s) (dragOf drag) (all-small s (a .sheet));

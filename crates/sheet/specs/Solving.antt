@@ -2,13 +2,14 @@
 -- Definitions only.
 use Prim.Native.Nat.{ℕ, _*_, _≤_}
 use mathlib.Core.Path.{_≡_}
-use mathlib.Core.Bool.{Bool, cond}
+use mathlib.Core.Bool.{cond}
 use mathlib.Core.List.{List, _++_}
-use mathlib.Core.Option.{Option, none, some}
+use mathlib.Core.Option.{Option}
 use lib.ListN.{length, drop}
 use lib.Dec.{eqb}
 use lib.Ieee.{Float}
-use Rattle.records.specs.Numbers.{GROUND}
+use Rattle.records.specs.Numbers.{flagNumber}
+use Rattle.records.specs.Record.{bodyNumberAt}
 use Rattle.scene.specs.Scene.{posesDoubles}
 use Rattle.scene.specs.Solve.{Solution, MAX-ITER, solve}
 use Rattle.placement.specs.Answer.{framesDoubles}
@@ -17,17 +18,13 @@ use Rattle.format.specs.Format.{bodiesOf, relationsOf}
 use Rattle.refusals.specs.SceneAt.{sceneAt}
 use Rattle.refusals.specs.Refusals.{solveFault}
 
--- the dragged body; 65535 is none
-unfoldable pub dragOf : ℕ → Option ℕ
-dragOf drag = cond (eqb drag GROUND) none (some drag)
+-- the dragged body, by the number that an end has for its body: 65535 is none
+abbrev pub dragOf : ℕ → Option ℕ
+dragOf drag = bodyNumberAt drag
 
 -- the answer of `solve` on an accepted sheet
 abbrev pub solutionOf : List ℕ → ℕ → Solution
 solutionOf s drag = solve (sceneAt s) (dragOf drag)
-
--- a flag as a byte
-abbrev pub flagOf : Bool → ℕ
-flagOf b = cond b 1 0
 
 -- The promise: the number r, and the lent places at entry and at exit. What the scratch holds at entry has no say in it.
 pub record SolveAnswer (s : List ℕ) (drag r : ℕ) (scratch scratch' poses poses' frames frames' errors errors' : List Float) (flag flag' : ℕ) : Type 0 where
@@ -36,7 +33,7 @@ pub record SolveAnswer (s : List ℕ) (drag r : ℕ) (scratch scratch' poses pos
   pub poses-are : poses' ≡ cond (eqb r 0) (posesDoubles (solutionOf s drag .poses) ++ drop (12 * bodiesOf s) poses) poses
   pub frames-are : frames' ≡ cond (eqb r 0) (framesDoubles (solutionOf s drag .frames) ++ drop (12 * bodiesOf s) frames) frames
   pub errors-are : errors' ≡ cond (eqb r 0) (solutionOf s drag .errors ++ drop (relationsOf s) errors) errors
-  pub flag-is : flag' ≡ cond (eqb r 0) (flagOf (solutionOf s drag .converged)) flag
+  pub flag-is : flag' ≡ cond (eqb r 0) (flagNumber (solutionOf s drag .converged)) flag
   -- on acceptance any doubles may stand in scratch
   pub scratch-kept : (r ≡ 0 → ⊥) → scratch' ≡ scratch
   pub scratch-size : length scratch' ≡ length scratch

@@ -7,6 +7,7 @@ use refusals::lent::solve_fault;
 use relations::model::Place;
 ghost use mathlib.Core.Path.{_≡_};
 ghost use Rattle.relations.specs.Model.{bodyNumber};
+ghost use Rattle.records.specs.Numbers.{flagNumber};
 ghost use Rattle.sheet.specs.Solving as solving;
 
 // The dragged body; 65535 is none.
@@ -21,7 +22,7 @@ fn drag_place(drag: u16) -> Place
 
 // A flag as a byte.
 fn flag(ok: bool) -> u8
-    ensures { λ r. ⌜ r ≡ solving.flagOf ok ⌝ }
+    ensures { λ r. ⌜ r ≡ flagNumber ok ⌝ }
 {
     if ok { 1 } else { 0 }
 }
