@@ -1,0 +1,691 @@
+#!/usr/bin/env python3
+"""Holds docs/DEFINITIONS.md against the frozen answers of the Rust and against the definitions that it names.
+
+    python3 tools/definitions.py [PAGE]      PAGE is docs/DEFINITIONS.md unless another is given
+
+The page's own tables are worked: formulas by tools/formulas.py, and relations, bodies and headers by the page's offsets.
+Nothing of the solver's code or of the Rust is used. The comparisons:
+
+  rows        crates/row_list/data/rows.bin: every row and every error, bit for bit; the unit of every row, by doubling all lengths
+  functions   wrap.bin and tangent_gap.bin beside it, crates/vector_list/data/from_normal.bin
+  readings    crates/sheet_list/data/relation_calls.bin: `joint_reading`, and whether a relation is judged to have rows
+  faults      sheets_fields.bin, sheets_refused.bin and sheets_limits.bin there: which number every sheet is refused with
+  solved      sheets_solved.bin there: where still bodies stand, every error at the poses, what converged says, what is filled in
+  numbers     each number of the table "Numbers", and of the text on solving and freedom, stands in a definition named beside it
+  names       each definition that the page names stands in the file that it names
+  sketches    each sketch that the page shows is there, as tools/sketches.py draws it, and there is no other
+
+It prints what it compared and ends with 1 if anything differs, if a line of the page's tables was met by nothing, or if a
+comparison compared nothing. oracle/FORMATS.md says how the lists are laid out.
+"""
+import math
+import pathlib
+import re
+import struct
+import sys
+from collections import Counter
+
+sys.dont_write_bytecode = True
+import sketches
+from formulas import Line, Page, bits, largest, names_in, parsed
+
+ROOT = pathlib.Path(__file__).resolve().parent.parent
+ROWS = ROOT / "crates" / "row_list" / "data"
+VECTORS = ROOT / "crates" / "vector_list" / "data"
+SHEETS = ROOT / "crates" / "sheet_list" / "data"
+
+problems = []
+
+
+def problem(text):
+    problems.append(text)
+
+
+# ---- the page's tables
+
+class Table:
+    def __init__(self, heading, columns):
+        self.heading, self.columns, self.rows = heading, columns, []
+
+
+def cells(line):
+    return [c.strip() for c in line.strip().strip("|").split("|")]
+
+
+def code(cell):
+    return cell[1:-1] if len(cell) > 1 and cell[0] == cell[-1] == "`" else cell
+
+
+def read_tables(text):
+    tables, heading, current = [], "", None
+    for line in text.splitlines():
+        if line.startswith("#"):
+            heading = line.lstrip("#").strip()
+        if not line.startswith("|"):
+            current = None
+        elif current is None:
+            current = Table(heading, cells(line))
+            tables.append(current)
+        elif not re.fullmatch(r"[-|: ]+", line):
+            row = cells(line)
+            if len(row) != len(current.columns):
+                problem(f"a line of the table under {heading!r} has {len(row)} cells instead of {len(current.columns)}: {line}")
+                continue
+            current.rows.append(dict(zip(current.columns, row)))
+    return tables
+
+
+class Group:
+    """One line of a law's table: some rows of a pair."""
+
+    def __init__(self, law, row):
+        self.law, self.unit, self.formula = law, row["unit"], code(row["formula"])
+        self.both = row["ends"].endswith(" ⇄")
+        self.ends = tuple(row["ends"].removesuffix(" ⇄").split(", "))
+        self.flags = [int(f) for f in row["aligned"].split(", ")] if "aligned" in row else None
+        self.joint, self.third = row.get("joint"), row.get("third")
+        first, _, last = row["rows"].partition("-")
+        self.rows = list(range(int(first), int(last or first) + 1))
+        self.tree = parsed(self.formula)
+        if self.unit not in ("mm", "part", "rad"):
+            problem(f"{self} has the unit {self.unit!r}")
+        if (self.unit == "rad") != ("angle" in names_in(self.tree)):
+            problem(f"{self} has the unit {self.unit}, and a row is in rad just where it has the angle in it")
+
+    def __str__(self):
+        extra = "".join(f", {x}" for x in (self.joint, self.third and f"third end {self.third}") if x)
+        return f"{self.law} of {', '.join(self.ends)}{extra}, rows {self.rows[0]}-{self.rows[-1]}: {self.formula}"
+
+    def suits(self, kinds, third, flag, joint):
+        """False, or in which order the ends stand: "as written" or "exchanged"."""
+        if (self.flags is not None and flag not in self.flags) or (self.joint is not None and joint != self.joint):
+            return False
+        if self.third is not None and third != self.third:
+            return False
+        return "as written" if kinds == self.ends else "exchanged" if self.both and kinds == self.ends[::-1] else False
+
+
+class Definitions:
+    """The page as the script works with it."""
+
+    def __init__(self, text):
+        self.text, self.tables = text, read_tables(text)
+        self.page = Page()
+        for row in self.table("Names", "name").rows:
+            self.page.add_name(code(row["name"]), "", code(row["formula"]))
+        for row in self.table("Functions", "function").rows:
+            self.page.add_function(code(row["function"]), code(row["when"]), code(row["formula"]))
+        for row in self.table("Joint", "name").rows:
+            self.page.add_name(code(row["name"]), code(row["when"]), code(row["formula"]))
+        self.numbers = {"law": {}, "joint": {}, "primitive": {}}
+        for row in self.table("Numbers of laws, joints and primitives", "number").rows:
+            for of, known in self.numbers.items():
+                if row[of]:
+                    known[int(row["number"])] = row[of]
+        self.page.constants.update({name: float(n) for n, name in self.numbers["primitive"].items()})
+        self.counts = {row["law"]: row for row in self.table("What an end counts as", "law").rows}
+        if sorted(self.counts) != sorted(self.numbers["law"].values()):
+            problem("the table under 'What an end counts as' does not have just the laws")
+        self.groups = [Group(law, row) for law in self.counts for row in self.table(law.capitalize(), "ends").rows]
+        self.gaps = {}
+        for row in self.table("Tangent", "pair").rows:
+            self.gaps[row["pair"], int(row["inside"])] = Line(f"gap {row['pair']}, inside {row['inside']}", "", code(row["gap"]))
+        self.readings = {row["reading"]: Line(f"reading {row['reading']}", "", code(row["formula"])) for row in self.table("Joint", "reading").rows}
+        self.fields = {name: read_fields(self.table(name, "offset")) for name in ("Header", "Body", "Relation", "End")}
+        self.sizes = {name: self.size(name) for name in self.fields}
+        for f in self.fields["Relation"] + self.fields["End"]:
+            if f.name in self.numbers and f.allowed != f"0 to {max(self.numbers[f.name])}":
+                problem(f"{f.name}: allowed is {f.allowed}, and the numbers of the page go up to {max(self.numbers[f.name])}")
+        self.filled = {}
+        for row in self.table("What is filled in", "of").rows:
+            first, _, last = row["doubles"].partition("-")
+            self.filled.setdefault(row["of"], []).append(range(int(first), int(last or first) + 1))
+        for of, size in (("pose", 12), ("frame", 12), ("freedom", 29)):
+            if [i for part in self.filled[of] for i in part] != list(range(size)):
+                problem(f"the doubles of a {of} are not 0 to {size - 1} in order")
+        self.met = Counter()
+
+    def table(self, heading, first):
+        found = [t for t in self.tables if t.heading == heading and t.columns[0] == first]
+        if len(found) != 1:
+            raise ValueError(f"the page has {len(found)} tables under {heading!r} whose first column is {first!r}")
+        return found[0]
+
+    def section(self, heading):
+        found = re.search(rf"^## {heading}\n(.*?)(?=^## |\Z)", self.text, re.M | re.S)
+        if not found:
+            raise ValueError(f"the page has no part {heading!r}")
+        return found.group(1)
+
+    def size(self, name):
+        """The bytes that the page gives the record, which its fields fill without a gap."""
+        found = re.search(rf"^### {name}\n\n(\d+) bytes\.$", self.text, re.M)
+        size = int(found.group(1)) if found else None
+        at = 0
+        for f in self.fields[name]:
+            if f.offset != at:
+                problem(f"{name}: {f.name} stands at {f.offset}, and the field before it ends at {at}")
+            at = f.offset + f.size
+        if at != size:
+            problem(f"{name}: the fields end at {at}, and the page gives it {size} bytes")
+        return at
+
+    # -- reading a record by the page's offsets
+
+    def read(self, record, data, at):
+        out = {}
+        for f in self.fields[record]:
+            if f.type == "end":
+                out[f.name] = self.read("End", data, at + f.offset)
+            elif f.name != "zero":
+                out[f.name] = f.read(data, at)
+        return out
+
+    def pose(self, body):
+        """The pose that a body's frame is: its axes as columns, its origin."""
+        x, y, z = body["x"], body["y"], body["z"]
+        return {"r0": (x[0], y[0], z[0]), "r1": (x[1], y[1], z[1]), "r2": (x[2], y[2], z[2]), "t": body["origin"]}
+
+    # -- rows
+
+    def kinds(self, rel):
+        law = self.numbers["law"][rel["law"]]
+        kind = lambda end: self.counts[law][self.numbers["primitive"][end["primitive"]]]
+        third = self.numbers["primitive"][rel["S"]["primitive"]]
+        return law, (kind(rel["A"]), kind(rel["B"])), third, self.numbers["joint"][rel["joint"]]
+
+    def scope(self, rel, poses, exchanged=False):
+        ground = {"r0": (1.0, 0.0, 0.0), "r1": (0.0, 1.0, 0.0), "r2": (0.0, 0.0, 1.0), "t": (0.0, 0.0, 0.0)}
+        pose = lambda end: ground if end["body"] == 65535 else poses[end["body"]]
+        a, b = ("B", "A") if exchanged else ("A", "B")
+        scope = {"A": rel[a], "B": rel[b], "S": rel["S"], "qa": pose(rel[a]), "qb": pose(rel[b])}
+        if self.numbers["law"][rel["law"]] == "symmetry":
+            scope["qs"] = pose(rel["S"])
+        scope.update({name: rel[name] for name in ("offset", "angle", "reference", "flag")})
+        return scope
+
+    def gap(self, kinds, flag):
+        return self.gaps["with a plane" if "plane" in kinds else "both round", flag]
+
+    def rows(self, rel, poses):
+        """The rows by the page, with the group of each."""
+        law, kinds, third, joint = self.kinds(rel)
+        out = []
+        for group in self.groups:
+            order = group.law == law and group.suits(kinds, third, rel["flag"], joint)
+            if not order:
+                continue
+            scope = self.scope(rel, poses, order == "exchanged")
+            if law == "tangent":
+                line = self.gap(kinds, rel["flag"])
+                self.page.met[line] += 1
+                scope["gap"] = self.page.value(line.formula, scope)
+            value = self.page.value(group.tree, scope)
+            values = value if isinstance(value, tuple) else (value,)
+            if group.rows != list(range(len(out) + 1, len(out) + 1 + len(values))):
+                problem(f"{group}: the formula gives {len(values)} rows from {len(out) + 1} on")
+            self.met[group, order, rel["flag"] if group.flags else None] += 1
+            out += [(v, group) for v in values]
+        return out
+
+    def unmet(self):
+        for group in self.groups:
+            for order in ["as written", "exchanged"] if group.both else ["as written"]:
+                for flag in group.flags or [None]:
+                    if not self.met[group, order, flag]:
+                        yield f"{group}, ends {order}" + (f", flag {flag}" if flag is not None else "")
+        for line in list(self.page.lines()) + list(self.gaps.values()) + list(self.readings.values()):
+            if not self.page.met[line]:
+                yield line.what
+
+
+class Field:
+    FORMS = {"byte": "B", "u16": "H", "u32": "I", "double": "d"}
+
+    def __init__(self, row):
+        self.offset, self.size, self.type, self.name = int(row["offset"]), int(row["size"]), row["type"], code(row["name"])
+        self.allowed, self.fault = row["allowed"], int(row["fault"] or 0)
+        used = row.get("used by", "all")
+        self.used = None if used in ("", "all") else used.split(", ")
+        many, _, one = self.type.rpartition(" ")
+        self.one = one.removesuffix("s") if many else self.type
+        self.many = int(many) if many else None
+        width = {"byte": 1, "u16": 2, "u32": 4, "double": 8}.get(self.one)
+        if width and self.size != width * (self.many or 1):
+            problem(f"{self.name}: {self.type} is not {self.size} bytes")
+
+    def read(self, data, at):
+        values = struct.unpack_from("<" + self.FORMS[self.one] * (self.many or 1), data, at + self.offset)
+        return tuple(values) if self.many else values[0]
+
+    def raw(self, data, at):
+        return data[at + self.offset:at + self.offset + self.size]
+
+
+def read_fields(table):
+    return [Field(row) for row in table.rows]
+
+
+# ---- the sheet's faults by the page
+
+def field_fault(d, f, data, at, uses, known):
+    """The number that the field is refused with, or 0."""
+    if f.type == "end":
+        return 0
+    if f.name == "zero" or (f.used is not None and not uses(f.used)):
+        return 0 if not any(f.raw(data, at)) else 5 if f.name != "zero" else f.fault
+    value = f.read(data, at)
+    if f.allowed.startswith("up to "):
+        good = all(abs(v) <= float(f.allowed[6:]) for v in (value if f.many else (value,)))
+    elif f.allowed == "below m, or 65535":
+        good = value < known["m"] or value == 65535
+    elif " to " in f.allowed:
+        low, high = map(int, f.allowed.split(" to "))
+        good = low <= value <= high
+    else:
+        good = value == d.page.value(parsed(code(f.allowed)), known)
+    return 0 if good else f.fault
+
+
+def first_fault(faults):
+    return min((x for x in faults if x), default=0)
+
+
+def relation_fault(d, data, at, known):
+    law = d.numbers["law"].get(data[at + d.fields["Relation"][0].offset])
+    uses_law = lambda used: law in used
+    faults = []
+    for f in d.fields["Relation"]:
+        faults.append(field_fault(d, f, data, at, uses_law, known))
+        if f.type != "end":
+            continue
+        if f.used is not None and not uses_law(f.used):
+            faults.append(5 if any(f.raw(data, at)) else 0)
+            continue
+        primitive = d.numbers["primitive"].get(data[at + f.offset + d.fields["End"][0].offset])
+        faults += [field_fault(d, g, data, at + f.offset, lambda used: law in used or primitive in used, known) for g in d.fields["End"]]
+    return first_fault(faults)
+
+
+def sheet_fault(d, data):
+    """The number by the page's tables, 1 to 7, or 0."""
+    if len(data) < d.sizes["Header"]:
+        return 1
+    known = {name: float(v) for name, v in d.read("Header", data, 0).items()}
+    fault = first_fault(field_fault(d, f, data, 0, None, known) for f in d.fields["Header"])
+    if fault or len(data) != known["length"]:
+        return fault or 4
+    header = d.read("Header", data, 0)
+    for i in range(header["m"]):
+        at = header["bodies"] + d.sizes["Body"] * i
+        fault = first_fault(field_fault(d, f, data, at, None, known) for f in d.fields["Body"])
+        if fault:
+            return fault
+    for j in range(header["k"]):
+        fault = relation_fault(d, data, header["relations"] + d.sizes["Relation"] * j, known)
+        if fault:
+            return fault
+    return 0
+
+
+def judged(d, rel):
+    """11 for a relation without rows, 12 for a tangent without a round end beside another or a plane, else 0."""
+    law, kinds, third, joint = d.kinds(rel)
+    if not any(g.law == law and g.suits(kinds, third, rel["flag"], joint) for g in d.groups):
+        return 11
+    roundness = [kind in ("line", "point") and rel[e]["end_radius"] > 0 for kind, e in zip(kinds, "AB")]
+    return 12 if law == "tangent" and not all(r or kind == "plane" for r, kind in zip(roundness, kinds)) else 0
+
+
+# ---- the lists
+
+class List:
+    """A list of words of 64 bits; word 0 is the number of records."""
+
+    def __init__(self, path):
+        self.path, self.data, self.at = path, path.read_bytes(), 8
+        self.count = struct.unpack_from("<Q", self.data)[0]
+
+    def word(self):
+        self.at += 8
+        return struct.unpack_from("<Q", self.data, self.at - 8)[0]
+
+    def words(self, n):
+        return [self.word() for _ in range(n)]
+
+    def doubles(self, n):
+        self.at += 8 * n
+        return struct.unpack_from(f"<{n}d", self.data, self.at - 8 * n)
+
+    def bytes(self, n):
+        self.at += n
+        return self.data[self.at - n:self.at]
+
+    def whole(self, compared):
+        if self.at != len(self.data):
+            problem(f"{self.path.name}: {len(self.data) - self.at} bytes are left over")
+        if not compared:
+            problem(f"{self.path.name}: nothing was compared")
+
+
+def same(mine, theirs):
+    return [bits(x) for x in mine] == [bits(x) for x in theirs]
+
+
+def pose_of(v, turning=range(9), position=range(9, 12)):
+    r, t = [v[i] for i in turning], [v[i] for i in position]
+    return {"r0": tuple(r[:3]), "r1": tuple(r[3:6]), "r2": tuple(r[6:]), "t": tuple(t)}
+
+
+def doubled(rel, poses):
+    """The relation and the poses with every length twice as long; doubling is exact."""
+    twice = lambda v: tuple(2 * x for x in v)
+    end = lambda e: {**e, "point": twice(e["point"]), "end_radius": 2 * e["end_radius"], "circle_radius": 2 * e["circle_radius"]}
+    rel = {**rel, "offset": 2 * rel["offset"], "A": end(rel["A"]), "B": end(rel["B"]), "S": end(rel["S"])}
+    return rel, [{**p, "t": twice(p["t"])} for p in poses]
+
+
+def pair_name(d, rel):
+    law, _, third, joint = d.kinds(rel)
+    pair = "-".join(d.numbers["primitive"][rel[e]["primitive"]] for e in "AB")
+    return law, joint if law == "joint" else pair
+
+
+def compare_rows(d):
+    """rows.bin; gives the count of relations and rows for each law and pair."""
+    rows, seen, row_count = List(ROWS / "rows.bin"), {}, 0
+    for i in range(rows.count):
+        rel = d.read("Relation", rows.bytes(264), 0)
+        poses = [pose_of(rows.doubles(12)) for _ in range(3)]
+        count, theirs, error = rows.word(), rows.doubles(7), rows.doubles(1)[0]
+        theirs = theirs[:count]
+        mine = d.rows(rel, poses)
+        values = [v for v, _ in mine]
+        if not same(values, theirs):
+            where = next((g for (v, g), t in zip(mine, theirs) if bits(v) != bits(t)), None)
+            problem(f"rows.bin, relation {i}, {' '.join(pair_name(d, rel))}: {len(values)} rows by the page, {count} in the list; "
+                    + (f"the first that differs: {where}" if where else "their number differs"))
+            continue
+        if bits(largest(values)) != bits(error):
+            problem(f"rows.bin, relation {i}: the error differs")
+        for (v, group), (w, _) in zip(mine, d.rows(*doubled(rel, poses))):
+            if bits(w) != bits(2 * v if group.unit == "mm" else v):
+                problem(f"{group}: the unit is not {group.unit}")
+        key = pair_name(d, rel)
+        relations, n = seen.get(key, (0, 0))
+        seen[key] = relations + 1, n + count
+        row_count += count
+    rows.whole(row_count)
+    print(f"rows: {sum(r for r, _ in seen.values())} of {rows.count} relations, {row_count} rows, bit for bit as in the list")
+    for law in d.counts:
+        pairs = [f"{pair} {r} ({n})" for (of, pair), (r, n) in sorted(seen.items()) if of == law]
+        print(f"  {law}, relations (rows): " + ", ".join(pairs))
+
+
+def compare_functions(d):
+    wraps, good = List(ROWS / "wrap.bin"), 0
+    for _ in range(wraps.count):
+        w, theirs = wraps.doubles(2)
+        mine = d.page.call("wrap", [w], {})
+        if bits(mine) == bits(theirs):
+            good += 1
+        else:
+            problem(f"wrap.bin: wrap({w!r}) is {mine!r} by the page and {theirs!r} in the list")
+    wraps.whole(good)
+    print(f"functions: wrap of {good} of {wraps.count} angles as in the list")
+    gaps, good = List(ROWS / "tangent_gap.bin"), 0
+    for _ in range(gaps.count):
+        ra, rb, offset = gaps.doubles(3)
+        inside, plane = gaps.words(2)
+        theirs = gaps.doubles(1)[0]
+        line = d.gap(("plane",) if plane else (), inside)
+        mine = d.page.value(line.formula, {"ra": ra, "rb": rb, "offset": offset})
+        if bits(mine) == bits(theirs):
+            good += 1
+        else:
+            problem(f"tangent_gap.bin: {line.what}, of {ra!r}, {rb!r}, {offset!r} is {mine!r} by the page and {theirs!r} in the list")
+    gaps.whole(good)
+    print(f"functions: gap of {good} of {gaps.count} tangents as in the list")
+    frames, good, left = List(VECTORS / "from_normal.bin"), 0, 0
+    for _ in range(frames.count):
+        origin, z = frames.doubles(3), frames.doubles(3)
+        present, frame = frames.word(), frames.doubles(12)
+        if not all(map(math.isfinite, origin)):
+            left += 1
+            continue
+        built, o, x, z = (d.page.call(name, arguments, {}) for name, arguments in (("built", [z]), ("frameO", [origin, z]), ("frameX", [z]), ("frameZ", [z])))
+        theirs = frame[:6] + frame[9:] if present else (0.0, 0.0, 0.0, 1.0, 0.0, 0.0, 0.0, 0.0, 1.0)
+        if built == present and same(o + x + z, theirs):
+            good += 1
+        else:
+            problem(f"from_normal.bin: the frame of {origin}, {z} differs")
+    frames.whole(good)
+    print(f"functions: {good} of {frames.count} joint frames as in the list; {left} left out whose origin is not finite, which no sheet has")
+
+
+def compare_readings(d):
+    calls, good = List(SHEETS / "relation_calls.bin"), 0
+    for i in range(calls.count):
+        rel = d.read("Relation", calls.bytes(264), 0)
+        poses = [d.pose(d.read("Body", calls.bytes(136), 0)) for _ in range(3)]
+        judging, theirs = calls.word(), calls.doubles(2)
+        calls.doubles(12)
+        scope = d.scope(rel, poses)
+        mine = []
+        for line in (d.readings["offset"], d.readings["angle"]):
+            d.page.met[line] += 1
+            mine.append(d.page.value(line.formula, scope))
+        if not same(mine, theirs):
+            problem(f"relation_calls.bin, relation {i}: the reading is {mine} by the page and {theirs} in the list")
+        elif judged(d, rel) != judging:
+            problem(f"relation_calls.bin, relation {i}: judged {judged(d, rel)} by the page and {judging} in the list")
+        else:
+            good += 1
+    calls.whole(good)
+    print(f"readings: joint readings and judgements of {good} of {calls.count} relations as in the list")
+
+
+def compare_fields(d):
+    """sheets_fields.bin: one field changed at a time, and what judging relation 0 gives."""
+    fields, numbers = List(SHEETS / "sheets_fields.bin"), Counter()
+    for i in range(fields.count):
+        sheet = fields.bytes(53 * 8)
+        for _ in range(fields.word()):
+            at, word, number = fields.words(3)
+            changed = sheet[:8 * at] + struct.pack("<Q", word) + sheet[8 * at + 8:]
+            mine = sheet_fault(d, changed)
+            if not mine:
+                mine = judged(d, d.read("Relation", changed, d.read("Header", changed, 0)["relations"]))
+            if mine != number:
+                problem(f"sheets_fields.bin, sheet {i}, word {at} {word:016X}: {mine} by the page and {number} in the list")
+                continue
+            numbers[number] += 1
+    fields.whole(sum(numbers.values()))
+    said = ", ".join(f"{n}: {numbers[n]}" for n in sorted(numbers))
+    print(f"faults: {sum(numbers.values())} sheets with one field changed as in the list, by number {said}")
+
+
+def sheets_of(path):
+    """Each sheet with its calls: which call, its six words, and the answer's words."""
+    sheets = List(path)
+    for _ in range(sheets.count):
+        length = sheets.word()
+        sheet = sheets.bytes((length + 7) // 8 * 8)[:length]
+        calls = []
+        for _ in range(sheets.word()):
+            head = sheets.words(6)
+            n = sheets.word()
+            calls.append((head, sheets.bytes(8 * n)))
+        yield sheet, calls
+    sheets.whole(sheets.count)
+
+
+def compare_refused(d):
+    """sheets_refused.bin and sheets_limits.bin: the numbers 1 to 7, and none of them."""
+    numbers = Counter()
+    for name in ("sheets_refused.bin", "sheets_limits.bin"):
+        for i, (sheet, calls) in enumerate(sheets_of(SHEETS / name)):
+            mine = sheet_fault(d, sheet)
+            for head, answer in calls:
+                number = struct.unpack_from("<Q", answer)[0]
+                theirs = number if number <= 7 else 0
+                if mine == theirs:
+                    numbers[theirs] += 1
+                else:
+                    problem(f"{name}, sheet {i}, call {head[0]}: {mine} by the page and {theirs} in the list")
+    said = ", ".join(f"{n}: {numbers[n]}" for n in sorted(numbers))
+    print(f"faults: {sum(numbers.values())} calls on good and damaged sheets as in the lists, by number {said} (0: none of 1 to 7)")
+    for n in range(1, 8):
+        if not numbers[n]:
+            problem(f"no sheet of the lists was refused by {n}")
+
+
+def unused_are_zero(d, v):
+    """A body's 29 doubles by the page: two counts, then what they count, the rest 0."""
+    slides, turns, slide_doubles, turn_doubles = d.filled["freedom"]
+    counts = v[slides[0]], v[turns[0]]
+    rest = [v[i] for i in slide_doubles[3 * int(counts[0]):]] + [v[i] for i in turn_doubles[6 * int(counts[1]):]]
+    return all(c in (0, 1, 2, 3) for c in counts) and not any(map(bits, rest))
+
+
+def compare_solved(d):
+    """sheets_solved.bin: still bodies keep their frames' poses, errors are those of the page's rows, converged says whether all are within the tolerance."""
+    tolerance = float(next(r["value"] for r in d.table("Numbers", "number").rows if r["number"].startswith("`ASSEMBLY`")))
+    relations, still, frames, freedoms, flags = 0, 0, 0, 0, Counter()
+    for i, (sheet, calls) in enumerate(sheets_of(SHEETS / "sheets_solved.bin")):
+        header = d.read("Header", sheet, 0)
+        m, k = header["m"], header["k"]
+        bodies = [d.read("Body", sheet, header["bodies"] + d.sizes["Body"] * j) for j in range(m)]
+        rels = [d.read("Relation", sheet, header["relations"] + d.sizes["Relation"] * j) for j in range(k)]
+        named = {rel[e]["body"] for rel in rels for e in ("ABS" if d.numbers["law"][rel["law"]] == "symmetry" else "AB")}
+        for head, answer in calls:
+            refused, first = struct.unpack_from("<QQ", answer) if len(answer) > 8 else (1, 0)
+            if head[0] == 4 and not refused:
+                doubles = struct.unpack_from(f"<{29 * m}d", answer, 16)
+                for j in range(m):
+                    freedoms += 1
+                    if not unused_are_zero(d, doubles[29 * j:29 * j + 29]):
+                        problem(f"sheets_solved.bin, sheet {i}: the freedom of body {j} is not laid out as on the page")
+            if head[0] != 3 or refused:
+                continue
+            doubles = struct.unpack_from(f"<{24 * m + k}d", answer, 16)
+            poses, errors = [pose_of(doubles[12 * j:12 * j + 12], *d.filled["pose"]) for j in range(m)], doubles[24 * m:]
+            mine = [largest([v for v, _ in d.rows(rel, poses)]) for rel in rels]
+            if not same(mine, errors):
+                problem(f"sheets_solved.bin, sheet {i}: the errors differ")
+            if first != all(e <= tolerance for e in mine):
+                problem(f"sheets_solved.bin, sheet {i}: converged is {first} in the list")
+            for j, body in enumerate(bodies):
+                frame = doubles[12 * (m + j):12 * (m + j) + 12]
+                frame = {name: tuple(frame[n] for n in part) for name, part in zip(("origin", "x", "y", "z"), d.filled["frame"])}
+                frames += 1
+                if not same(frame["origin"], poses[j]["t"]) and frame != {name: body[name] for name in frame}:
+                    problem(f"sheets_solved.bin, sheet {i}: the frame of body {j} stands neither at its pose nor where it was")
+                if body["fixed"] or j not in named:
+                    still += 1
+                    if any(not same(d.pose(body)[part], poses[j][part]) for part in poses[j]):
+                        problem(f"sheets_solved.bin, sheet {i}: body {j} does not stand where its frame puts it")
+            relations += k
+            flags[first] += 1
+    if not (relations and still and frames and freedoms and flags[0] and flags[1]):
+        problem("sheets_solved.bin: not all was compared")
+    print(f"solved: errors of {relations} relations at the poses found, {still} of {frames} bodies that stay, {flags[1]} answers converged and {flags[0]} not; {freedoms} freedoms")
+
+
+# ---- what the page names
+
+CITED = re.compile(r"((?:`[\w-]+`(?:, | and ))*`[\w-]+`) in `(crates/[\w/]+\.antt)`")
+
+
+def cited(name, file):
+    """The text of a definition, from its signature to the next blank line; None if the file does not have it."""
+    path = ROOT / file
+    text = path.read_text(encoding="utf-8") if path.is_file() else ""
+    found = re.search(rf"^ *(?:(?:abbrev|unfoldable) )?pub (?:record |data )?{re.escape(name)}(?= [:({{]|$)[^\n]*(?:\n[^\n]+)*", text, re.M)
+    return found.group(0) if found else None
+
+
+def compare_names(d):
+    count, files = 0, 0
+    for names, file in CITED.findall(d.text):
+        files += 1
+        for name in re.findall(r"`([\w-]+)`", names):
+            count += 1
+            if cited(name, file) is None:
+                problem(f"the page names {name} in {file}, and it is not defined there")
+    if files != d.text.count(".antt") or not count:
+        problem(f"the page has {d.text.count('.antt')} names of files of definitions, of which {files} can be looked up")
+    print(f"names: {count} definitions in {files} places of the page")
+
+
+def stands(value, text):
+    """Whether a definition's text has the number: a double by its bits, or a count."""
+    plain = text.replace("_", "")
+    words = {f"0x{bits(float(value)):X}"}
+    if re.fullmatch(r"\d+", value):
+        words |= {value, f"0x{int(value):X}"} | {"0": {"zero64"}, "1": {"one64"}}.get(value, set())
+    return any(re.search(rf"(?<![\w.]){re.escape(w)}(?![\w.])", plain, re.I) for w in words)
+
+
+def compare_numbers(d):
+    count = 0
+    for row in d.table("Numbers", "number").rows:
+        found = CITED.fullmatch(row["number"])
+        text = found and cited(found.group(1).strip("`"), found.group(2))
+        for value in row["value"].split(", "):
+            count += 1
+            if not text or not stands(value, text):
+                problem(f"the number {value} does not stand in {row['number']}")
+    told = 0
+    for item in re.findall(r"^- .*(?:\n  .*)*", d.section("Solving") + d.section("Freedom"), re.M):
+        texts = list(filter(None, (cited(name, file) for names, file in CITED.findall(item) for name in re.findall(r"`([\w-]+)`", names))))
+        for value in re.findall(r"(?<![\w.`-])-?\d+(?:\.\d+)?(?:e-?\d+)?(?!\w)", item):
+            if value not in ("0", "1", "2", "3"):
+                told += 1
+                if not any(stands(value, text) for text in texts):
+                    problem(f"the number {value} stands in no definition that is named beside it: {item[:60]}...")
+    if not count or not told:
+        problem("no number was looked up")
+    print(f"numbers: {count} in the definitions that the page names for them, {told} in the text")
+
+
+def compare_sketches(d):
+    shown = re.findall(r"!\[[^\]]*\]\(([^)]*)\)", d.text)
+    folder = ROOT / "docs" / "sketches"
+    drawn = {f"sketches/{name}": text for name, text in sketches.all_sketches().items()}
+    there = {f"sketches/{p.name}" for p in folder.iterdir()} if folder.is_dir() else set()
+    for name in sorted(set(shown) | set(drawn) | there):
+        if name not in shown:
+            problem(f"{name} is not shown on the page")
+        elif name not in there:
+            problem(f"{name} is shown on the page and is not there")
+        elif name not in drawn:
+            problem(f"{name} is not drawn by tools/sketches.py")
+        elif (ROOT / "docs" / name).read_text(encoding="utf-8") != drawn[name]:
+            problem(f"{name} is not as tools/sketches.py draws it")
+    if len(shown) != len(set(shown)) or not shown:
+        problem("the page shows no sketch, or one twice")
+    print(f"sketches: {len(shown)} shown, each as drawn")
+
+
+def main():
+    if len(sys.argv) > 2:
+        sys.exit(__doc__)
+    path = pathlib.Path(sys.argv[1]) if len(sys.argv) == 2 else ROOT / "docs" / "DEFINITIONS.md"
+    try:
+        d = Definitions(path.read_text(encoding="utf-8"))
+        for compare in (compare_rows, compare_functions, compare_readings, compare_fields, compare_refused, compare_solved, compare_numbers, compare_names, compare_sketches):
+            compare(d)
+        for what in d.unmet():
+            problem(f"met by nothing in the lists: {what}")
+    except (OSError, ValueError, KeyError, IndexError, TypeError, struct.error) as error:
+        problem(f"the page cannot be worked: {type(error).__name__}: {error}")
+    for text in problems[:20]:
+        print(f"definitions: {text}", file=sys.stderr)
+    if problems:
+        sys.exit(f"definitions: {len(problems)} problems; {path.name} does not say what the answers are")
+    print("definitions: the page says what the answers are")
+
+
+if __name__ == "__main__":
+    main()
