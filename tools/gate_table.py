@@ -4,9 +4,8 @@
     python3 tools/gate_table.py          from what the last run of `.ci/run` left in target/
     python3 tools/gate_table.py --run    runs `.ci/run` first
 
-Lines are counted with comments. Definitions are the files of specs/ whose head says "Definitions only"
-or "Definitions and statements"; the other files of specs/ hold laws and count as proofs. Times are seconds of wall time while two checks
-run side by side, as `rt ci` runs them.
+Lines are counted with comments: definitions are the files of specs/, proofs those of proofs/; the lists
+Lib.antt are left out. Times are seconds of wall time while two checks run side by side, as `rt ci` runs them.
 """
 import pathlib
 import re
@@ -22,13 +21,8 @@ def lines(paths):
     return sum(len(p.read_text(encoding="utf-8").splitlines()) for p in paths)
 
 
-def is_definitions(path):
-    head = []
-    for line in path.read_text(encoding="utf-8").splitlines():
-        if not line.startswith("-- "):
-            break
-        head.append(line[3:])
-    return re.search(r"Definitions (only|and statements)", " ".join(head)) is not None
+def logic(folder):
+    return [p for p in folder.rglob("*.antt") if p.name != "Lib.antt"]
 
 
 def seconds(text, pattern):
@@ -38,9 +32,6 @@ def seconds(text, pattern):
 
 def crate_row(name):
     folder = ROOT / "crates" / name
-    specs = [p for p in folder.glob("specs/*.antt") if p.name != "Lib.antt"]
-    definitions = [p for p in specs if is_definitions(p)]
-    laws = [p for p in specs if p not in definitions]
     said = (TARGET / "log" / f"{name}.out").read_text(encoding="utf-8")
     edits = sorted(folder.glob("must-fail/*.edit"))
     times = []
@@ -51,8 +42,8 @@ def crate_row(name):
         "name": name,
         "functions": seconds(said, r"functions=(\d+)"),
         "source": lines(folder.rglob("src/**/*.rt")),
-        "definitions": lines(definitions),
-        "proofs": lines(laws) + lines(folder.rglob("proofs/**/*.antt")),
+        "definitions": lines(logic(folder / "specs")),
+        "proofs": lines(logic(folder / "proofs")),
         "check": seconds(said, rf"rt: {name} proved \((\d+) s\)"),
         "edits": len(edits),
         "edits_time": sum(t for t in times if t is not None),

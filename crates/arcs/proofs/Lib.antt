@@ -1,3 +1,9 @@
+pub mod NearestLaws
+pub mod Magnitudes
+pub mod Range
+pub mod FigureLaws
+pub mod RootNearest
+pub mod RootLaws
 pub mod NanQuotient
 pub mod RoundSelf
 pub mod Remainder

@@ -9,7 +9,7 @@ use lib.Dec.{T, ltb, leb, eqb, ltb→lt, leb→le, eqb→eq}
 use lib.Pow.{pow-add, pow-pos, pow-mono, pow-lt}
 use lib.Ieee.{Float, nan, inf, fin, Format, prec, emax, low, up, down, round, fits}
 use lib.Ieee.Fits.{and-l, and-r, up-pos, down-pos, round-fits}
-use Rattle.numbers.specs.Close.{ring}
+use Rattle.numbers.proofs.CloseLaws.{ring}
 use lib.Ieee.Exact.{HasValue, round-exact}
 
 -- ---- an odd number times a power of two

@@ -1,5 +1,5 @@
 -- The coefficients of the three polynomials, the lowest power first, by bits. Document 01, "The train of files", item 1: "coefficients nearest ±1/j!" and
--- "coefficients nearest ±1/j for j = 1, 3 to 39". Nearest.antt shows that each is the nearest double. Definitions only.
+-- "coefficients nearest ±1/j for j = 1, 3 to 39". proofs/NearestLaws.antt shows that each is the nearest double. Definitions only.
 use mathlib.Core.List.{List, [], _∷_}
 use lib.Ieee.{Float, binary64, ofBits}
 

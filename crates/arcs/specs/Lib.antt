@@ -1,10 +1,6 @@
 pub mod Coefs
 pub mod Arcs
 pub mod Nearest
-pub mod Magnitudes
-pub mod Range
 pub mod Figures
 pub mod Root
-pub mod RootNearest
-pub mod RootLaws
 pub mod RootSteps

@@ -1,7 +1,7 @@
--- Each coefficient is the double nearest to its fraction, and the bound of the arctangent the double nearest to √2 - 1. Document 01, "The train of files", item 1.
--- Each fact is computed: the fractions are rounded and compared with the bits. Assumes nothing.
+-- What it says that each coefficient is the double nearest to its fraction, and the bound of the arctangent the double nearest to √2 - 1. Document 01, "The train of files", item 1.
+-- proofs/NearestLaws.antt has the proof, `nearest-coefs`. Definitions and statements.
 use Prim.Native.Nat.{ℕ, zero, suc, _+_, _*_}
-use mathlib.Core.Path.{_≡_, refl}
+use mathlib.Core.Path.{_≡_}
 use mathlib.Core.Bool.{Bool, true, false, not}
 use mathlib.Core.List.{List, [], _∷_}
 use lib.IntN.{pos}
@@ -20,21 +20,6 @@ unfolding round
 reciprocals d s k zero = []
 reciprocals d s k (suc n) = round binary64 s 1 (d k) ∷ reciprocals d (not s) (suc (suc k)) n
 
--- 1/1!, -1/3!, .. 1/17!
-pub sine-coefs : sineCoefs ≡ reciprocals factorial false 1 9
-unfolding reciprocals factorial ofBits
-sine-coefs = refl
-
--- 1/0!, -1/2!, .. 1/16!
-pub cosine-coefs : cosineCoefs ≡ reciprocals factorial false 0 9
-unfolding reciprocals factorial ofBits
-cosine-coefs = refl
-
--- 1/1, -1/3, .. -1/39
-pub arctangent-coefs : arctangentCoefs ≡ reciprocals (λ j. j) false 1 20
-unfolding reciprocals ofBits
-arctangent-coefs = refl
-
 -- the number halfway between two doubles, and 1
 unfoldable pub oneAndHalfway : Float → Float → Frac
 oneAndHalfway x y = addQ (record { num = pos 1; den = 1 }) (mulQ (addQ (fracOf x) (fracOf y)) (record { num = pos 1; den = 2 }))
@@ -42,11 +27,13 @@ oneAndHalfway x y = addQ (record { num = pos 1; den = 1 }) (mulQ (addQ (fracOf x
 abbrev pub two : Frac
 two = record { num = pos 2; den = 1 }
 
--- √2 - 1 lies above the number halfway to the double before, and below the number halfway to the double after
-pub root-two-less-above : (let h = oneAndHalfway (ofBits binary64 0x3FDA_8279_99FC_EF31) rootTwoLess in ltQ (mulQ h h) two) ≡ true
-unfolding oneAndHalfway ltQ mulQ addQ fracOf ofBits
-root-two-less-above = refl
-
-pub root-two-less-below : (let h = oneAndHalfway rootTwoLess (ofBits binary64 0x3FDA_8279_99FC_EF33) in ltQ two (mulQ h h)) ≡ true
-unfolding oneAndHalfway ltQ mulQ addQ fracOf ofBits
-root-two-less-below = refl
+pub record Nearest-coefs : Type 0 where
+  -- 1/1!, -1/3!, .. 1/17!
+  pub sine-coefs : sineCoefs ≡ reciprocals factorial false 1 9
+  -- 1/0!, -1/2!, .. 1/16!
+  pub cosine-coefs : cosineCoefs ≡ reciprocals factorial false 0 9
+  -- 1/1, -1/3, .. -1/39
+  pub arctangent-coefs : arctangentCoefs ≡ reciprocals (λ j. j) false 1 20
+  -- √2 - 1 lies above the number halfway to the double before, and below the number halfway to the double after
+  pub root-two-less-above : (let h = oneAndHalfway (ofBits binary64 0x3FDA_8279_99FC_EF31) rootTwoLess in ltQ (mulQ h h) two) ≡ true
+  pub root-two-less-below : (let h = oneAndHalfway rootTwoLess (ofBits binary64 0x3FDA_8279_99FC_EF33) in ltQ two (mulQ h h)) ≡ true

@@ -1,5 +1,5 @@
 -- The square root of a double, as IEEE 754 has it: the nearest double, ties to even. Document 01, "The train of files", item 1.
--- `CorrectRoot x r` says that r is that root, by what makes it so; `root x` computes it. `RootLaws` shows that the two agree. Definitions only.
+-- `CorrectRoot x r` says that r is that root, by what makes it so; `root x` computes it. proofs/RootLaws.antt shows that the two agree. Definitions only.
 use Prim.Native.Nat.{ℕ, zero, suc, _+_, _-_, _*_, _/_, _^_, _<_}
 use mathlib.Core.Path.{_≡_}
 use mathlib.Core.Bool.{Bool, true, false, not, cond}

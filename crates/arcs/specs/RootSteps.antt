@@ -33,3 +33,8 @@ pub record Flag (a b r : ℕ) : Type 0 where
   pub bit : r ≤ 1
   pub one : a < b → r ≡ 1
   pub none : b ≤ a → r ≡ 0
+
+-- q is the whole number nearest to √m: (q - 1/2)² < m < (q + 1/2)², which for whole numbers is q² - q < m ≤ q² + q
+pub record WholeRoot (m q : ℕ) : Type 0 where
+  pub low : q * q < m + q
+  pub high : m ≤ q * q + q

@@ -23,7 +23,8 @@ use Rattle.eigen.specs.Eigen.{Turned, turned, unitTo, sweeps, Eigen, column, pa
 use Rattle.spans.specs.Eigen6.{eigen6, none6, past6, eigens6}
 use Rattle.spans.specs.Flat.{flat}
 use Rattle.spans.specs.Span.{spanBasis}
-use Rattle.spans.specs.Sorted.{unsorted, span-few}
+use Rattle.spans.specs.Sorted.{unsorted}
+use Rattle.spans.proofs.SortedLaws.{span-few}
 use Rattle.spans.specs.Basis.{first, vec3, basis, basisOf, past3}
 use Rattle.spans.proofs.Flat.{Grid, length-flat, flat-at}
 use Rattle.eigen.proofs.Sorting.{fill-step, length-sort, sort-map}

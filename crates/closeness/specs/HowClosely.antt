@@ -1,5 +1,5 @@
 -- Demand 3, how closely, and the end of the work: what holds of every answer of `solve`. Document 01, "The words of demand 3". Definitions and statements;
--- HowCloselyLaws.antt has the proofs, `how-closely` and `rounds-end`.
+-- proofs/HowCloselyLaws.antt has the proofs, `how-closely` and `rounds-end`.
 use Prim.Native.Nat.{ℕ, _+_, _*_, _≤_, _<_}
 use mathlib.Core.Path.{_≡_}
 use mathlib.Core.Bool.{Bool, true, false, _&&_, _||_}

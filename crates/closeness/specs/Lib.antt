@@ -1,4 +1,2 @@
 pub mod RowBound
-pub mod RowBoundLaws
 pub mod HowClosely
-pub mod HowCloselyLaws

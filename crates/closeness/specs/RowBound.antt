@@ -1,5 +1,5 @@
 -- The row bound: how far a relation's error on doubles can stand from its unrounded rows, for which relations and at which poses. Document 01, "The words of demand 3",
--- and "The sheet" for the limits. Definitions and statements; RowBoundLaws.antt has the proofs, `row-bound` and `error-bound`.
+-- and "The sheet" for the limits. Definitions and statements; proofs/RowBoundLaws.antt has the proofs, `row-bound` and `error-bound`.
 use mathlib.Core.Path.{_≡_}
 use Prim.Native.Nat.{ℕ, _^_}
 use mathlib.Core.Bool.{Bool, true, false, _&&_, _||_}

@@ -1,3 +1,5 @@
+pub mod SortLaws
+pub mod BeforeLaws
 pub mod Sorting
 pub mod EigenLaws
 pub mod EigenSortLaws

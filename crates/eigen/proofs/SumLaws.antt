@@ -1,5 +1,5 @@
 -- The sums by which the sweeps end keep near the sums of the fractions, for any n: the squares on the diagonal (`diag-near`) and off it (`off-near`). A row's squares off the diagonal
--- are a sum of n - 1 terms that passes over the diagonal (`off-row-is-sum`). By the laws of sums in numbers/specs/SumNear.antt. Assumes nothing.
+-- are a sum of n - 1 terms that passes over the diagonal (`off-row-is-sum`). By the laws of sums in numbers/proofs/SumNear.antt. Assumes nothing.
 use mathlib.Core.Path.{_≡_, refl, ap, _∙_}
 use mathlib.Core.Bool.{Bool, true, false, cond}
 use mathlib.Core.List.{List}
@@ -15,9 +15,11 @@ use Rattle.numbers.specs.Frac.{Frac, fracOf, mulQ}
 use Rattle.numbers.specs.Double.{zero64}
 use Rattle.numbers.specs.Ops.{doubles, fractions}
 use Rattle.numbers.specs.Sum.{sumFrom}
-use Rattle.numbers.specs.Near.{Near, exactly, upTo, near-self, near-weaken}
-use Rattle.numbers.specs.Bound.{Small, AllSmall, small-at}
-use Rattle.numbers.specs.SumNear.{productBound, product-near, one-fits, sum-on, products-near, minus-zero-small}
+use Rattle.numbers.specs.Near.{Near, exactly, upTo}
+use Rattle.numbers.proofs.NearLaws.{near-self, near-weaken}
+use Rattle.numbers.specs.Bound.{Small, AllSmall, productBound}
+use Rattle.numbers.proofs.BoundLaws.{small-at}
+use Rattle.numbers.proofs.SumNear.{product-near, one-fits, sum-on, products-near, minus-zero-small}
 use Rattle.eigen.specs.Eigen.{offRow, offTo, diagTo}
 use Rattle.eigen.proofs.EigenLaws.{row-within}
 

@@ -1,3 +1,2 @@
 pub mod Judge
 pub mod Count
-pub mod CountLaws

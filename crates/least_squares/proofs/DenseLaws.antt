@@ -11,7 +11,7 @@ use lib.Seq.{getD-take, take-set-lt, take-set-le, drop-cons, length-take-le}
 use borrow.Author.Tests.{eq-eqb, ne-eqb}
 use lib.Dec.{ltb}
 use lib.Ieee.{Float, nan, inf, fin, binary64, sub, mul, div, neg, lt, le, eq, ofBits, up, down}
-use Rattle.numbers.specs.DoubleLaws.{abs-negative, abs-positive}
+use Rattle.numbers.proofs.DoubleLaws.{abs-negative, abs-positive}
 use Rattle.numbers.specs.Double.{zero64, negative, isFinite, fmax, abs}
 use Rattle.least_squares.specs.Memory.{part, Kept}
 use Rattle.least_squares.specs.Lm.{System, largestTo, scaleOf, pivotTo, exchange, swapTo, pivoted, takeOffTo, clearRow, clearTo, clearColumn, eliminateTo, restTo, backTo, allFinite, answerOf, solveDense}

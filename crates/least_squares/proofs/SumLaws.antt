@@ -1,5 +1,5 @@
 -- The sums of lm.rs keep near the sums of the fractions, for any length: the sum of squares (`norm2-near`), an entry of the matrix (`gram-near`), an unknown after the step
--- (`stepped-near`). By the laws of sums in numbers/specs/SumNear.antt. Bounds count units of 1 / S, which is 2 ^ -80; a term's bound is that of its products, which the kernel evaluates for given sizes. Assumes nothing.
+-- (`stepped-near`). By the laws of sums in numbers/proofs/SumNear.antt. Bounds count units of 1 / S, which is 2 ^ -80; a term's bound is that of its products, which the kernel evaluates for given sizes. Assumes nothing.
 use mathlib.Core.Path.{_≡_}
 use mathlib.Core.List.{List}
 use Prim.Native.Nat.{ℕ, _+_, _*_, _^_, _≤_, _<_}
@@ -11,9 +11,11 @@ use Rattle.numbers.specs.Frac.{Frac, fracOf, subQ, mulQ}
 use Rattle.numbers.specs.Double.{zero64}
 use Rattle.numbers.specs.Ops.{fractions}
 use Rattle.numbers.specs.Sum.{sumFrom}
-use Rattle.numbers.specs.Near.{Bound, Near, addBound, mulBound, exactly, upTo, near-sub, near-mul, near-self}
-use Rattle.numbers.specs.Bound.{Small, AllSmall, small-at}
-use Rattle.numbers.specs.SumNear.{productBound, sum-near, products-near, zero-small, minus-zero-small}
+use Rattle.numbers.specs.Near.{Bound, Near, addBound, mulBound, exactly, upTo}
+use Rattle.numbers.proofs.NearLaws.{near-sub, near-mul, near-self}
+use Rattle.numbers.specs.Bound.{Small, AllSmall, productBound}
+use Rattle.numbers.proofs.BoundLaws.{small-at}
+use Rattle.numbers.proofs.SumNear.{sum-near, products-near, zero-small, minus-zero-small}
 use Rattle.least_squares.specs.Lm.{norm2, gram, steppedAt}
 use Rattle.least_squares.proofs.TableLaws.{in-rows}
 

@@ -25,7 +25,7 @@ use Rattle.scene.specs.Scene.{sceneIn}
 use Rattle.relations.specs.Rows as Rows
 use Rattle.scene.specs.Scene.{Put, RowsAt, sceneOf, poseIn, posesIn, posesDoubles, relRows}
 use Rattle.scene.specs.Solve.{Scene, layout, unknowns, posesAt, rowsAt, rowsOf, weights, startAt, slightTurn, MAX-ITER, runFrom, better, solved, solve, frameAt, framesFrom}
-use Rattle.judging.specs.CountLaws.{rows-packed}
+use Rattle.judging.proofs.CountLaws.{rows-packed}
 use Rattle.relations.specs.declared.rows.Rows.{Rows as RowsStruct}
 use Rattle.scene.specs.declared.scene.Scene.{Scene as SceneStruct}
 use Rattle.least_squares.proofs.MemoryLaws.{kept-refl, kept-part-below, kept-part-above}

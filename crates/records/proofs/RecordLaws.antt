@@ -8,7 +8,7 @@ use lib.Dec.{T}
 use lib.Ieee.{Float, nan, inf, fin, binary64, isNan, nanBits, ofBits}
 use lib.Ieee.Bits.{nanBits-above, nanBits-is}
 use borrow.Author.Tests.{lt-ltb, le-ltb}
-use Rattle.numbers.specs.DoubleLaws.{nan-only}
+use Rattle.numbers.proofs.DoubleLaws.{nan-only}
 use Rattle.vectors.specs.Vec.{Vec}
 use Rattle.relations.specs.Geometry.{circle}
 use Rattle.relations.specs.Model.{joint}

@@ -13,7 +13,7 @@ use lib.ListN.{length, length-append}
 use lib.Ieee.{Float}
 use Rattle.relations.specs.Geometry.{Pose}
 use Rattle.relations.specs.Model.{Body, Rel}
-use Rattle.judging.specs.CountLaws.{residual-length, row-count-le}
+use Rattle.judging.proofs.CountLaws.{residual-length, row-count-le}
 use Rattle.records.specs.Record.{bodyAt, relAt}
 use Rattle.scene.specs.Scene.{sceneIn}
 use Rattle.least_squares.proofs.TableLaws.{length-listOf}

@@ -18,7 +18,7 @@ use Rattle.least_squares.specs.Lm.{listOf}
 use Rattle.records.specs.Record.{bodyAt, relAt}
 use Rattle.scene.specs.Scene.{sceneIn}
 use Rattle.judging.specs.Count.{rowCount}
-use Rattle.judging.specs.CountLaws.{residual-length}
+use Rattle.judging.proofs.CountLaws.{residual-length}
 use Rattle.scene.specs.Solve.{names, named, moves, layoutFrom, layout, unknownsIn, rowsAt, allRows}
 use Rattle.scene.specs.Scene.{firstUnknown, sceneOf, Laid, relsIn, placeBody, LaidOut, SceneMade}
 use Rattle.scene.specs.declared.scene.Scene.{Scene as SceneStruct}

@@ -17,7 +17,7 @@ use Rattle.relations.specs.Geometry.{Pose}
 use Rattle.relations.specs.Model.{Body, Rel}
 use Rattle.relations.specs.Rows as Rows
 use Rattle.relations.specs.Rows.{ground, pack}
-use Rattle.judging.specs.CountLaws.{residual-length, row-count-le, rows-packed}
+use Rattle.judging.proofs.CountLaws.{residual-length, row-count-le, rows-packed}
 use Rattle.relations.specs.declared.rows.Rows.{Rows as RowsStruct}
 use Rattle.least_squares.specs.Lm.{listOf, inverseWeight}
 use Rattle.least_squares.specs.Memory.{part, Kept}

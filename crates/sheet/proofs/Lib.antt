@@ -2,3 +2,4 @@ pub mod CallLaws
 pub mod LimitLaws
 pub mod SolvingLaws
 pub mod FreedomLaws
+pub mod CaseLaws

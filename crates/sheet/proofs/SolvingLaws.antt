@@ -15,7 +15,7 @@ use Rattle.records.specs.Record.{bodyNumberAt}
 use Rattle.scene.specs.Scene.{Laid, SceneMade, sceneOf}
 use Rattle.scene.specs.declared.scene.Scene.{Scene as SceneStruct}
 use Rattle.placement.specs.Answer.{Filled}
-use Rattle.closeness.specs.HowCloselyLaws.{how-closely, rounds-end}
+use Rattle.closeness.proofs.HowCloselyLaws.{how-closely, rounds-end}
 use Rattle.rounds.specs.Places.{need}
 use Rattle.format.specs.Format.{bodiesOf, relationsOf}
 use Rattle.refusals.specs.SceneAt.{sceneAt}

@@ -1,24 +1,21 @@
--- The cases that document 01 marks with ● and that the definitions of arcs and the solver decide, as one table and one theorem: each line's two numbers are the same bits.
--- "What a call says", last paragraphs. By computation. Assumes nothing.
-use Prim.Native.Nat.{ℕ, zero, suc}
-use mathlib.Core.Path.{_≡_, refl}
+-- The cases that document 01 marks with ● and that the definitions of arcs and the solver decide, as one table and one statement: each line's two numbers are the same bits.
+-- "What a call says", last paragraphs. proofs/CaseLaws.antt has the proof, `marked-cases`. Definitions and statements.
+use mathlib.Core.Path.{_≡_}
 use mathlib.Core.Bool.{Bool, true, false}
 use mathlib.Core.List.{List, [], _∷_}
 use mathlib.Core.Option.{none, some}
-use lib.Ieee.{Float, nan, inf, binary64, add, sub, mul, div, rem, neg, lt, le, eq, ofBits, isNan}
-use Rattle.numbers.specs.Double.{zero64, one64, negative, isFinite, abs, fmax, remEuclid}
-use Rattle.numbers.specs.Horner.{horner}
+use lib.Ieee.{Float, nan, inf, binary64, neg, ofBits}
+use Rattle.numbers.specs.Double.{zero64, one64}
 use Rattle.numbers.specs.MaxAbs.{maxAbs}
 use Rattle.arcs.specs.Root.{root}
-use Rattle.arcs.specs.Arcs.{arctangent, series}
+use Rattle.arcs.specs.Arcs.{arctangent}
 use Rattle.vectors.specs.Vec.{Vec, zeroV}
 use Rattle.vectors.specs.Space.{world}
-use Rattle.relations.specs.Geometry.{point, placed}
+use Rattle.relations.specs.Geometry.{point}
 use Rattle.relations.specs.Model.{Body, End, Rel, mate}
-use Rattle.relations.specs.Rows.{wrap, tangentGap, planeGap, roundGap, matePrim, mateRows, formulaRows, residual}
-use Rattle.least_squares.specs.Lm.{listOf, tableOf, jacobian, run}
-use Rattle.scene.specs.Solve.{Scene, planeBody, names, named, moves, layoutFrom, unknownsIn, poseAt, posesFrom, allRows, halfSize, weightsFrom, solved, solve}
-use Rattle.body_freedom.specs.Dof.{scaledFrom, rankRel, unnamedFrom, totalFreedom, dof}
+use Rattle.relations.specs.Rows.{wrap, tangentGap}
+use Rattle.scene.specs.Solve.{Scene, halfSize, solve}
+use Rattle.body_freedom.specs.Dof.{dof}
 
 -- a number that a definition gives, beside the one that the paper gives
 pub record Case : Type 0 where
@@ -98,7 +95,3 @@ pub record Flags : Type 0 where
 pub record Marked : Type 0 where
   pub numbers : givens table ≡ papers table
   pub flags : Flags
-
-pub marked-cases : Marked
-unfolding table wrap remEuclid halfSize fmax tangentGap planeGap roundGap abs root maxAbs arctangent series horner negative add sub mul div rem neg lt le eq ofBits isNan isFinite solve solved unknownsIn layoutFrom moves named names planeBody poseAt posesFrom allRows residual formulaRows placed matePrim mateRows listOf weightsFrom run dof totalFreedom unnamedFrom scaledFrom rankRel jacobian tableOf
-marked-cases = record { numbers = refl; flags = record { none-asked = refl; at-limit = refl; past-limit = refl; unnamed = refl } }

@@ -16,7 +16,7 @@ use Rattle.relations.specs.Geometry.{Pose}
 use Rattle.relations.specs.Model.{Body, Rel}
 use Rattle.relations.specs.Rows.{residual, ground}
 use Rattle.judging.specs.Count.{rowCount}
-use Rattle.judging.specs.CountLaws.{residual-length}
+use Rattle.judging.proofs.CountLaws.{residual-length}
 use Rattle.records.specs.Record.{bodyAt, relAt}
 use Rattle.least_squares.specs.Lm.{stepOf, slopeOf, slope}
 use Rattle.least_squares.specs.LmPosts.{Copied}

@@ -1,5 +1,5 @@
 -- An entry of a product of two matrices (`cell`) is a sum of three products from -0, as Rust's `sum()` forms it (`cell-is-sum`), and keeps near the same sum of the fractions
--- (`cell-near`). By the laws of sums in numbers/specs/SumNear.antt. Assumes nothing.
+-- (`cell-near`). By the laws of sums in numbers/proofs/SumNear.antt. Assumes nothing.
 use mathlib.Core.Path.{_≡_, refl}
 use Prim.Native.Nat.{ℕ, zero, suc, _+_, _*_, _^_, _≤_, _<_}
 use lib.Ieee.{Float, binary64, mul, neg}
@@ -8,8 +8,8 @@ use Rattle.numbers.specs.Double.{zero64}
 use Rattle.numbers.specs.Ops.{doubles, fractions}
 use Rattle.numbers.specs.Sum.{sumFrom}
 use Rattle.numbers.specs.Near.{Near, upTo}
-use Rattle.numbers.specs.Bound.{Small}
-use Rattle.numbers.specs.SumNear.{productBound, products-near, minus-zero-small}
+use Rattle.numbers.specs.Bound.{Small, productBound}
+use Rattle.numbers.proofs.SumNear.{products-near, minus-zero-small}
 use Rattle.vectors.specs.Vec.{Vec}
 use Rattle.vectors.specs.Math.{cell}
 

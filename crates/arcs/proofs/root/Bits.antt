@@ -13,10 +13,10 @@ use lib.Ieee.Bits.{is-true, is-false, cond-no, ofBits-toBits, ofBits-fits, nanBi
 use lib.Ieee.Fits.{eq→eqb}
 use lib.Ieee.Exact.{HasValue, odd-sign}
 use lib.Ieee.Positive.{num, den, positive, first-pos, value-pos, value→cross}
-use Rattle.arcs.specs.RootSteps.{field, significand, exponent, Even}
+use Rattle.arcs.specs.RootSteps.{field, significand, exponent, Even, WholeRoot}
 use Rattle.arcs.specs.Root.{NearestRoot, CorrectRoot}
-use Rattle.arcs.specs.RootNearest.{WholeRoot, at-least, at-most, nearest}
-use Rattle.arcs.specs.RootLaws.{doubled}
+use Rattle.arcs.proofs.RootNearest.{at-least, at-most, nearest}
+use Rattle.arcs.proofs.RootLaws.{doubled}
 
 -- ---- significand and exponent by the field
 

@@ -1,6 +1,6 @@
 -- `numbers::abs` meets its contract. Assumes nothing.
 use mathlib.Core.Path.{sym, _∙_}
-use Rattle.numbers.specs.DoubleLaws.{abs-negative, abs-positive}
+use Rattle.numbers.proofs.DoubleLaws.{abs-negative, abs-positive}
 use Rattle.numbers.proofs.abs.Statement.{statement}
 use Rattle.numbers.proofs.abs.Tie as tie
 

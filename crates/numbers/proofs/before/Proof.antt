@@ -1,6 +1,6 @@
 -- `numbers::before` meets its contract. Assumes nothing.
 use mathlib.Core.Path.{sym}
-use Rattle.numbers.specs.DoubleLaws.{eq-self, ne-self, before-less, before-level, before-apart}
+use Rattle.numbers.proofs.DoubleLaws.{eq-self, ne-self, before-less, before-level, before-apart}
 use Rattle.numbers.proofs.before.Statement.{statement}
 use Rattle.numbers.proofs.before.Tie as tie
 

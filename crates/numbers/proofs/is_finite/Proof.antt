@@ -1,5 +1,5 @@
 -- `numbers::is_finite` meets its contract. Assumes nothing.
-use Rattle.numbers.specs.DoubleLaws.{finite-by-itself}
+use Rattle.numbers.proofs.DoubleLaws.{finite-by-itself}
 use Rattle.numbers.proofs.is_finite.Statement.{statement}
 use Rattle.numbers.proofs.is_finite.Tie as tie
 

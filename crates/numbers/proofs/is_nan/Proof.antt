@@ -1,5 +1,5 @@
 -- `numbers::is_nan` meets its contract. Assumes nothing.
-use Rattle.numbers.specs.DoubleLaws.{ne-self}
+use Rattle.numbers.proofs.DoubleLaws.{ne-self}
 use Rattle.numbers.proofs.is_nan.Statement.{statement}
 use Rattle.numbers.proofs.is_nan.Tie as tie
 

@@ -3,7 +3,7 @@ use mathlib.Core.Logic.{⊎-elim}
 use mathlib.Core.Path.{_≡_, sym, _∙_}
 use mathlib.Core.Bool.{true, false}
 use lib.Ieee.{Float, isNan, ne}
-use Rattle.numbers.specs.DoubleLaws.{ne-self, fmax-less, fmax-more}
+use Rattle.numbers.proofs.DoubleLaws.{ne-self, fmax-less, fmax-more}
 use Rattle.numbers.specs.Double.{fmax}
 use Rattle.numbers.proofs.max.Statement.{statement}
 use Rattle.numbers.proofs.max.Tie as tie

@@ -3,7 +3,7 @@ use mathlib.Core.Path.{_≡_, sym, _∙_}
 use mathlib.Core.Bool.{true, false}
 use borrow.Author.Tests.{not-true, not-false}
 use lib.Ieee.{Float, isNan, eq}
-use Rattle.numbers.specs.DoubleLaws.{eq-self, negative-bits, negative-nan}
+use Rattle.numbers.proofs.DoubleLaws.{eq-self, negative-bits, negative-nan}
 use Rattle.numbers.proofs.negative.Statement.{statement}
 use Rattle.numbers.proofs.negative.Tie as tie
 

@@ -1,6 +1,6 @@
 -- `numbers::signum` meets its contract. Assumes nothing.
 use mathlib.Core.Path.{_≡_, sym, _∙_}
-use Rattle.numbers.specs.DoubleLaws.{ne-self, nan-only}
+use Rattle.numbers.proofs.DoubleLaws.{ne-self, nan-only}
 use Rattle.numbers.specs.Double.{signum}
 use Rattle.numbers.proofs.signum.Statement.{statement}
 use Rattle.numbers.proofs.signum.Tie as tie

@@ -1,7 +1,7 @@
 -- `row_list::same` meets its contract: what equals itself is no NaN, so that it has bits. Assumes nothing.
 use mathlib.Core.Path.{sym, _∙_}
 use borrow.Author.Needs.{needs}
-use Rattle.numbers.specs.DoubleLaws.{ne-self}
+use Rattle.numbers.proofs.DoubleLaws.{ne-self}
 use Rattle.row_list.proofs.same.Statement.{statement}
 use Rattle.row_list.proofs.same.Tie as tie
 

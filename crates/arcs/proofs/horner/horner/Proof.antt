@@ -9,7 +9,7 @@ use lib.Ieee.{Float, nan}
 use Rattle.numbers.specs.Double.{zero64}
 use Rattle.numbers.specs.Ops.{doubles}
 use Rattle.numbers.specs.Horner as spec
-use Rattle.numbers.specs.Loops.{horner-top, horner-step}
+use Rattle.numbers.proofs.Loops.{horner-top, horner-step}
 use Rattle.arcs.proofs.horner.horner.Statement.{statement}
 use Rattle.arcs.proofs.horner.horner.Tie as tie
 

@@ -4,8 +4,7 @@ use mathlib.Core.Path.{_≡_}
 use native.Mathlib.Nat.{lt-irrefl, lt-of-not-le}
 use native.Mathlib.Decide.{decLe}
 use native.Mathlib.Omega.{arith}
-use Rattle.arcs.specs.RootNearest.{WholeRoot}
-use Rattle.arcs.specs.RootSteps.{Squared, Flag}
+use Rattle.arcs.specs.RootSteps.{WholeRoot, Squared, Flag}
 use borrow.Author.Needs.{needs}
 use Rattle.arcs.proofs.root.nearest_root.Statement.{statement}
 use Rattle.arcs.proofs.root.nearest_root.Tie as tie

@@ -4,7 +4,7 @@ use lib.Dec.{T}
 use lib.Ieee.{Float, binary64, fits, ofBits, toBits}
 use lib.Ieee.Bits.{ofBits-toBits}
 use Rattle.arcs.specs.Root.{CorrectRoot, root}
-use Rattle.arcs.specs.RootLaws.{root-correct}
+use Rattle.arcs.proofs.RootLaws.{root-correct}
 use Rattle.arcs.proofs.root.Bits.{positive-no-nan}
 use borrow.Author.Needs.{needs}
 use Rattle.arcs.proofs.root.unit_or_root.Statement.{statement}

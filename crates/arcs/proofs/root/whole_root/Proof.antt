@@ -7,7 +7,7 @@ use native.Mathlib.Nat.{le-antisymm, mul-comm, mul-left-comm, pow-succ'}
 use native.Mathlib.Numerals.{add-one}
 use native.Mathlib.Omega.{arith}
 use lib.Pow.{pow-mono}
-use Rattle.arcs.specs.RootNearest.{WholeRoot}
+use Rattle.arcs.specs.RootSteps.{WholeRoot}
 use Rattle.arcs.proofs.root.whole_root.Statement.{statement}
 use Rattle.arcs.proofs.root.whole_root.Tie as tie
 

@@ -1,7 +1,7 @@
 -- `eigen_list::list::same` meets its contract: what equals itself is no NaN, so that it has bits. Assumes nothing.
 use mathlib.Core.Path.{sym, _∙_}
 use borrow.Author.Needs.{needs}
-use Rattle.numbers.specs.DoubleLaws.{ne-self}
+use Rattle.numbers.proofs.DoubleLaws.{ne-self}
 use Rattle.eigen_list.proofs.list.same.Statement.{statement}
 use Rattle.eigen_list.proofs.list.same.Tie as tie
 

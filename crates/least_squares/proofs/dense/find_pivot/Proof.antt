@@ -7,7 +7,7 @@ use borrow.Author.Needs.{needs}
 use Rattle.numbers.specs.Double.{abs}
 use lib.ListN.{getD}
 use lib.Ieee.{nan}
-use Rattle.numbers.specs.DoubleLaws.{lt-asym}
+use Rattle.numbers.proofs.DoubleLaws.{lt-asym}
 use Rattle.least_squares.specs.Lm.{pivotTo}
 use Rattle.least_squares.proofs.DenseLaws.{row-fits, magnitude-below, pivot-taken, pivot-left}
 use Rattle.least_squares.proofs.dense.find_pivot.Statement.{statement}

@@ -7,7 +7,7 @@ use native.Mathlib.Numerals.{add-one}
 use Rattle.numbers.specs.Double.{abs}
 use lib.ListN.{getD}
 use lib.Ieee.{nan}
-use Rattle.numbers.specs.DoubleLaws.{fmax-more}
+use Rattle.numbers.proofs.DoubleLaws.{fmax-more}
 use Rattle.least_squares.specs.Lm.{largestTo}
 use Rattle.least_squares.proofs.DenseLaws.{magnitude-below}
 use Rattle.least_squares.proofs.dense.largest.Statement.{statement}

@@ -1,7 +1,7 @@
 -- `least_squares::lm::max_abs` meets its contract. Assumes nothing.
 use borrow.Author.Needs.{needs}
 use native.Mathlib.Omega.{arith}
-use Rattle.numbers.specs.Loops.{maxAbs-none, maxAbs-step}
+use Rattle.numbers.proofs.Loops.{maxAbs-none, maxAbs-step}
 use Rattle.numbers.specs.MaxAbs.{maxAbs}
 use lib.Ieee.{nan}
 use lib.Seq.{take-length}

@@ -1,7 +1,7 @@
 -- `report::text::bits` meets its contract: what differs from itself is the NaN. Assumes nothing.
 use mathlib.Core.Path.{sym, _∙_}
 use borrow.Author.Needs.{needs}
-use Rattle.numbers.specs.DoubleLaws.{ne-self}
+use Rattle.numbers.proofs.DoubleLaws.{ne-self}
 use Rattle.report.proofs.TextLaws.{bits-nan}
 use Rattle.report.proofs.text.bits.Statement.{statement}
 use Rattle.report.proofs.text.bits.Tie as tie

@@ -8,7 +8,7 @@ use lib.Ieee.{Float}
 use lib.ListN.{length, drop}
 use Rattle.scene.specs.Scene.{relsIn}
 use Rattle.scene.specs.Solve.{allRows}
-use Rattle.judging.specs.CountLaws.{row-count-le}
+use Rattle.judging.proofs.CountLaws.{row-count-le}
 use Rattle.judging.specs.Count.{rowCount}
 use Rattle.relations.specs.Model.{Rel}
 use Rattle.relations.specs.Geometry.{Pose}

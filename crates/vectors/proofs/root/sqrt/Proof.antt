@@ -1,5 +1,5 @@
 -- `vectors::root::sqrt` meets its contract: what is correctly rounded is the root. Assumes nothing.
-use Rattle.arcs.specs.RootLaws.{correct-is-root}
+use Rattle.arcs.proofs.RootLaws.{correct-is-root}
 use Rattle.vectors.proofs.root.sqrt.Statement.{statement}
 use Rattle.vectors.proofs.root.sqrt.Tie as tie
 

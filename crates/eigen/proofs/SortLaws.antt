@@ -7,17 +7,7 @@ use mathlib.Core.List.{List, [], _∷_, _++_, reverseAux, reverse-reverse, List�
 use mathlib.Core.List.{Perm, Perm·refl, Perm·cons, Perm·swap, Perm·trans, Perm·append-left, Perm·mem-iff, perm-middle, reverse-perm}
 use mathlib.Core.List.{Permᴰ·append-nil}
 use mathlib.Core.List.{Pairwise, Pairwise·nil, Pairwise·cons, pairwise-cons, pairwise-singleton, pairwise-reverse}
-use Rattle.eigen.specs.Sort.{insertLast, sortLast, sort}
-
--- the elements that pass a test, in their order
-unfoldable pub keep : {A : Type 0} → (A → Bool) → List A → List A
-keep p [] = []
-keep p (x ∷ l) = cond (p x) (x ∷ keep p l) (keep p l)
-
--- a strict order by levels: of two elements at most one stands before the other, and "does not stand before" carries over
-pub record Order {A : Type 0} (before : A → A → Bool) : Type 0 where
-  pub asymmetric : (x y : A) → before x y ≡ true → before y x ≡ false
-  pub carries : (x y z : A) → before x y ≡ false → before y z ≡ false → before x z ≡ false
+use Rattle.eigen.specs.Sort.{insertLast, sortLast, sort, Order, Ordered, level, keep}
 
 pub transitive : {A : Type 0} {before : A → A → Bool} → Order before → (x y z : A) → before x y ≡ true → before y z ≡ true → before x z ≡ true
 transitive {before = before} o x y z e h = go (before x z) refl
@@ -32,10 +22,6 @@ order-up o f = record { asymmetric = λ x y. o .asymmetric (f x) (f y); carries 
 
 pub order-down : {A B : Type 0} {before : B → B → Bool} → Order before → (f : A → B) → Order (λ x y. before (f y) (f x))
 order-down o f = record { asymmetric = λ x y. o .asymmetric (f y) (f x); carries = λ x y z e h. o .carries (f z) (f y) (f x) h e }
-
--- neither stands before the other
-abbrev pub level : {A : Type 0} → (A → A → Bool) → A → A → Bool
-level before x y = not (before x y) && not (before y x)
 
 both-false : (a b : Bool) → (not a && not b) ≡ true → (a ≡ false) × (b ≡ false)
 both-false true b e = absurd (true≢false (sym e))
@@ -59,10 +45,6 @@ keep-reverse p [] s = refl
 keep-reverse p (x ∷ l) s = keep-reverse p l (x ∷ s) ∙ keep-head (p x) x (keep p l) (keep p s)
 
 module _ {A : Type 0} (before : A → A → Bool) where
-  -- no element stands before an earlier one
-  abbrev pub Ordered : List A → Type 0
-  Ordered = Pairwise (λ x y. before y x ≡ false)
-
   -- ---- a rearrangement
 
   insert-rearranges : (x : A) (l : List A) → Perm (insertLast before x l) (x ∷ l)
@@ -113,7 +95,7 @@ module _ {A : Type 0} (before : A → A → Bool) where
     sortLast-falling s [] h = h
     sortLast-falling s (x ∷ l) h = sortLast-falling (insertLast before x s) l (insert-falling x s h)
 
-    pub sort-ordered : (l : List A) → Ordered (sort before l)
+    pub sort-ordered : (l : List A) → Ordered before (sort before l)
     unfolding sort
     sort-ordered l = pairwise-reverse (λ x y. Bool-set (before y x) false) .1 (sortLast-falling [] l Pairwise·nil)
 

@@ -16,11 +16,7 @@ use lib.Ieee.Fits.{and-l, and-r}
 use lib.Ieee.Exact.{HasValue}
 use lib.Ieee.Positive.{num, den, positive, den-pos, positive-of-value, value→cross}
 use Rattle.arcs.specs.Root.{fromZero, BelowMidpoint, AboveMidpoint, NearestRoot}
-
--- q is the whole number nearest to √m: (q - 1/2)² < m < (q + 1/2)², which for whole numbers is q² - q < m ≤ q² + q
-pub record WholeRoot (m q : ℕ) : Type 0 where
-  pub low : q * q < m + q
-  pub high : m ≤ q * q + q
+use Rattle.arcs.specs.RootSteps.{WholeRoot}
 
 -- ---- whole numbers: q * p stands for the root, y for the other double, p for 2 ^ k, b for 2 ^ 52
 

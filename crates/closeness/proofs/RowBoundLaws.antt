@@ -15,10 +15,11 @@ use lib.Ieee.Fits.{and-l, and-r, down-pos}
 use Rattle.numbers.specs.Double.{abs}
 use Rattle.numbers.specs.Frac.{Frac, fracOf}
 use Rattle.numbers.specs.Ops.{doubles, fractions}
-use Rattle.numbers.specs.DiffersLaws.{within-differs}
+use Rattle.numbers.proofs.DiffersLaws.{within-differs}
 use Rattle.numbers.specs.Near.{S, addBound, mulBound}
-use Rattle.numbers.specs.Largest.{AllWithin, within-largest}
-use Rattle.numbers.specs.Bound.{Bounded, bounded, input, Small, constBound, small-of-le, allGood, all-within}
+use Rattle.numbers.proofs.Largest.{AllWithin, within-largest}
+use Rattle.numbers.specs.Bound.{Small, constBound}
+use Rattle.numbers.proofs.BoundLaws.{Bounded, bounded, input, small-of-le, allGood, all-within}
 use Rattle.vectors.specs.Vec.{Vec}
 use Rattle.vectors.specs.Math.{apply}
 use Rattle.relations.specs.Geometry.{Geo, plane, line, point, circle, Pose, poseOf, place, placed}

@@ -12,7 +12,7 @@ use lib.Ieee.Fits.{up-pos, down-pos, round-is}
 use lib.Ieee.Order.{round-mono}
 use lib.Ieee.Positive.{through}
 use borrow.Author.Tests.{ne-eqb}
-use Rattle.numbers.specs.Close.{ring}
+use Rattle.numbers.proofs.CloseLaws.{ring}
 
 -- x is finite, of magnitude at most p / r
 abbrev pub AtMostOf : ℕ → ℕ → Float → Type 0

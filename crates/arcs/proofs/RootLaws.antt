@@ -19,7 +19,8 @@ use lib.Ieee.Exact.{units-val}
 use lib.Ieee.Nearest.{div-same}
 use lib.Ieee.Positive.{num, den, positive, first-pos}
 use Rattle.arcs.specs.Root.{isqrt, nearestWhole, root, NearestRoot, CorrectRoot}
-use Rattle.arcs.specs.RootNearest.{at-most, swap, positive-fromZero, WholeRoot, digits, held, nearest}
+use Rattle.arcs.specs.RootSteps.{WholeRoot}
+use Rattle.arcs.proofs.RootNearest.{at-most, swap, positive-fromZero, digits, held, nearest}
 
 -- ● the root of 2
 pub root-of-two : toBits binary64 (root (ofBits binary64 0x4000_0000_0000_0000)) ≡ 0x3FF6_A09E_667F_3BCD

@@ -18,7 +18,7 @@ use lib.Ieee.Fits.{and-l, and-r, down-pos}
 use lib.Ieee.Order.{le-of-values}
 use lib.Ieee.Positive.{through}
 use Rattle.numbers.specs.Double.{zero64, isFinite, abs, fmax}
-use Rattle.numbers.specs.DoubleLaws.{zero-value}
+use Rattle.numbers.proofs.DoubleLaws.{zero-value}
 use Rattle.numbers.specs.MaxAbs.{maxAbsStep, maxAbs}
 use Rattle.vectors.specs.Tol.{ASSEMBLY}
 use Rattle.relations.specs.Geometry.{Pose}
@@ -26,7 +26,7 @@ use Rattle.relations.specs.Model.{Body, Rel, poseOfFrame}
 use Rattle.relations.specs.Rows.{ground}
 use Rattle.least_squares.specs.Lm.{State, Tried, Outcome, listOf, norm2, judged, stepWith, trial, trials, oneRound, rounds, run, inverseWeight}
 use Rattle.scene.specs.Solve.{Scene, named, moves, layoutFrom, unknowns, poseAt, posesFrom, posesAt, rowsAt, allRows, rowsOf, weights, startAt, slightTurn, MAX-ITER, runFrom, better, solved, solve}
-use Rattle.closeness.specs.RowBoundLaws.{error-bound}
+use Rattle.closeness.proofs.RowBoundLaws.{error-bound}
 use Rattle.closeness.specs.HowClosely.{allWithin, Closeness, roundsOf, RoundsEnd}
 
 -- what holds on each side of a test holds, for each of the two ways to write the test

@@ -5,14 +5,16 @@ use native.Mathlib.Nat.{le-trans, div-le-of-le-mul}
 use native.Mathlib.Omega.{arith}
 use mathlib.Core.List.{List, [], _∷_, map, map-map, map-id}
 use lib.Dec.{T}
-use lib.ListN.{length, replicate}
+use lib.ListN.{length}
 use lib.Ieee.{Float, ofBits}
 use Rattle.numbers.specs.Frac.{fracOf}
 use Rattle.numbers.specs.Double.{zero64}
 use Rattle.numbers.specs.Ops.{doubles, fractions}
 use Rattle.numbers.specs.Horner.{horner}
-use Rattle.numbers.specs.Near.{Bound, Near, S, addBound, mulBound, exactly, upTo, near-add, near-mul, near-self, near-weaken, rounds-by}
-use Rattle.numbers.specs.Bound.{Bounded, Small, AllSmall, bounds, bounded, input, inputs, inputs-double, inputs-frac, inputs-bound, constBound, near-const}
+use Rattle.numbers.specs.Near.{Near, S, addBound, mulBound, exactly, upTo}
+use Rattle.numbers.proofs.NearLaws.{near-add, near-mul, near-self, near-weaken, rounds-by}
+use Rattle.numbers.specs.Bound.{Small, AllSmall, bounds, constBound, hornerBound}
+use Rattle.numbers.proofs.BoundLaws.{Bounded, bounded, input, inputs, inputs-double, inputs-frac, inputs-bound, near-const}
 
 -- ---- bounds by evaluation
 pub horner-bounded : (cs : List Bounded) (z : Bounded) → T (horner bounds (map (λ c. c .bound) cs) (z .bound) .ok)
@@ -31,10 +33,6 @@ pub horner-const : (cs : List Float) (z : Float) (m : ℕ) → Small m z → T (
 horner-const cs z m h t = simp (map-map, map-id) at (horner-bounded (map (bounded .of) cs) (input m z h) (simp map-map t))
 
 -- n coefficients of at most k / S, at a z of at most m / S
-unfoldable pub hornerBound : ℕ → ℕ → ℕ → Bound
-unfolding horner
-hornerBound k m n = horner bounds (replicate n (exactly k)) (exactly m)
-
 pub horner-small : (k m : ℕ) (cs : List Float) (z : Float) → AllSmall k cs → Small m z → T (hornerBound k m (length cs) .ok)
     → Near (horner doubles cs z) (horner fractions (map fracOf cs) (fracOf z)) (hornerBound k m (length cs))
 unfolding hornerBound

@@ -9,10 +9,13 @@ use lib.Ieee.{Float, nan, inf, fin, up, down}
 use lib.Ieee.Fits.{down-pos}
 use Rattle.numbers.specs.Frac.{Frac, fracOf, subQ}
 use Rattle.numbers.specs.Differs.{Differs-by-at-most}
-use Rattle.numbers.specs.Parts.{plusPart, minusPart, plusPart-neg, minusPart-neg, add-parts}
-use Rattle.numbers.specs.Close.{Signed, Close, coarser}
-use Rattle.numbers.specs.Near.{Bound, Near, S, S-pos, valueOf, partsOf, signed-path}
-use Rattle.numbers.specs.Largest.{Within, finite-is}
+use Rattle.numbers.specs.Parts.{plusPart, minusPart}
+use Rattle.numbers.proofs.PartLaws.{plusPart-neg, minusPart-neg, add-parts}
+use Rattle.numbers.specs.Close.{Signed, Close}
+use Rattle.numbers.proofs.CloseLaws.{coarser}
+use Rattle.numbers.specs.Near.{Bound, Near, S, valueOf, partsOf}
+use Rattle.numbers.proofs.NearLaws.{S-pos, signed-path}
+use Rattle.numbers.proofs.Largest.{Within, finite-is}
 
 pub value-is : (x : Float) → valueOf x ≡ partsOf (fracOf x)
 unfolding fracOf

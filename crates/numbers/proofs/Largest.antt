@@ -12,11 +12,13 @@ use lib.Ieee.Bits.{is-true}
 use lib.Ieee.Fits.{down-pos}
 use lib.Ieee.Scale.{finite}
 use Rattle.numbers.specs.Frac.{Frac, subQ, ltQ, maxQ, absQ, below0}
-use Rattle.numbers.specs.Parts.{plusPart, minusPart, plusPart-neg, minusPart-neg, add-parts}
+use Rattle.numbers.specs.Parts.{plusPart, minusPart}
+use Rattle.numbers.proofs.PartLaws.{plusPart-neg, minusPart-neg, add-parts}
 use Rattle.numbers.specs.Double.{zero64, isFinite, abs, fmax}
-use Rattle.numbers.specs.DoubleLaws.{zero-value}
+use Rattle.numbers.proofs.DoubleLaws.{zero-value}
 use Rattle.numbers.specs.MaxAbs.{maxAbs, maxAbsStep, zeroQ, largestQ}
-use Rattle.numbers.specs.Close.{Signed, Under, Close, AtMost, under-chain, under-more, under-of}
+use Rattle.numbers.specs.Close.{Signed, Under, Close}
+use Rattle.numbers.proofs.CloseLaws.{AtMost, under-chain, under-more, under-of}
 use Rattle.numbers.specs.Near.{signed, valueOf, partsOf}
 
 -- ---- a distance of k / R

@@ -7,12 +7,13 @@ use mathlib.Core.Path.{_≡_, refl, ap}
 use mathlib.Core.Bool.{Bool, true, false, cond, true≢false, false≢true}
 use lib.IntN.{ℤ, pos, negsuc}
 use lib.Dec.{T, ltb}
-use lib.Ieee.{Float, nan, inf, fin, binary64, up, down, round, rem, sum, add, sub, mul, div, lt, eq, ofInt, ofBits}
+use lib.Ieee.{Float, nan, inf, fin, binary64, up, down, round, rem, sum, add, mul, div, lt, eq, ofInt, ofBits}
 use lib.Ieee.Fits.{up-pos, down-pos}
 use borrow.Author.Tests.{lt-ltb, le-ltb, ltb-true, ltb-false, eq-eqb, ne-eqb}
-use Rattle.numbers.specs.Double.{zero64, one64, isFinite, negative}
+use Rattle.numbers.specs.Double.{zero64, isFinite, negative}
 use Rattle.arcs.specs.Arcs.{tau, halfPi, rootTwoLess, ratio, quarters, passed, fromTurn}
-use Rattle.arcs.specs.Magnitudes.{AtMostOf, round-at-most, of-round, sub-at-most, square-at-most, round-at-least, div-at-most}
+use Rattle.arcs.specs.Figures.{folded}
+use Rattle.arcs.proofs.Magnitudes.{AtMostOf, round-at-most, of-round, sub-at-most, square-at-most, round-at-least, div-at-most}
 
 module _ (m : ℕ) (e : ℤ) where
   -- whether the edge k * E lies below
@@ -93,9 +94,6 @@ unfolding round
 turn-square t h s = square-at-most 101 128 5 8 _ 5 (negsuc 2) (omega arith) (omega arith) (omega arith) refl (le-refl _) (turn-at-most t h s)
 
 -- ---- the arctangent's v: u itself up to √2 - 1, and (u - 1) / (u + 1) above
-abbrev pub folded : Float → Float
-folded u = div binary64 (sub binary64 u one64) (add binary64 u one64)
-
 pub record Series-small (u : Float) : Type 0 where
   pub up-to : lt rootTwoLess u ≡ false → AtMostOf 3 16 (mul binary64 u u)
   pub beyond : lt rootTwoLess u ≡ true → AtMostOf 3 16 (mul binary64 (folded u) (folded u))

@@ -10,7 +10,7 @@ use lib.Dec.{ltb, eqb}
 use lib.Ieee.{Float, nan, inf, fin, lt, eq, isNan, up, down}
 use lib.Ieee.Fits.{down-pos}
 use Rattle.numbers.specs.Double.{before, negative}
-use Rattle.eigen.specs.SortLaws.{Order}
+use Rattle.eigen.specs.Sort.{Order}
 
 num : Float → ℕ
 num nan = 6

@@ -9,8 +9,10 @@ use Rattle.numbers.specs.Frac.{Frac, fracOf, mulQ}
 use Rattle.numbers.specs.Double.{zero64}
 use Rattle.numbers.specs.Ops.{doubles, fractions}
 use Rattle.numbers.specs.Sum.{sumFrom}
-use Rattle.numbers.specs.Near.{Bound, Near, S, roundBound, addBound, mulBound, exactly, upTo, near-add, near-mul, near-self, near-weaken, rounds-by}
-use Rattle.numbers.specs.Bound.{Bounded, Small, bounds}
+use Rattle.numbers.specs.Near.{Bound, Near, S, roundBound, addBound, mulBound, exactly, upTo}
+use Rattle.numbers.proofs.NearLaws.{near-add, near-mul, near-self, near-weaken, rounds-by}
+use Rattle.numbers.specs.Bound.{Small, bounds, productBound}
+use Rattle.numbers.proofs.BoundLaws.{Bounded}
 
 -- ---- the bound by evaluation
 pub sum-bounded : (s : Bounded) (f : ℕ → Bounded) (n : ℕ) → T (sumFrom bounds (s .bound) (λ k. f k .bound) n .ok)
@@ -65,9 +67,6 @@ sum-small M i I f n s z room h =
     (sum-near (exactly M) i I f (λ j. fracOf (f j)) n s z (omega arith) (λ j l. near-self (f j) M (h j l .0) (h j l .1)))
 
 -- ---- n products of two doubles of at most A / S and B / S
-abbrev pub productBound : ℕ → ℕ → Bound
-productBound A B = mulBound (exactly A) (exactly B)
-
 pub product-near : (A B i : ℕ) → i ≤ 1000 → (x y : Float) → Small A x → Small B y → productBound A B .most + productBound A B .off + 2 ^ i < 2 ^ (54 + i)
     → Near (mul binary64 x y) (mulQ (fracOf x) (fracOf y)) (productBound A B)
 unfolding mulBound roundBound

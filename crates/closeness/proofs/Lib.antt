@@ -1,0 +1,2 @@
+pub mod RowBoundLaws
+pub mod HowCloselyLaws

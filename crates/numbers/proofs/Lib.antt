@@ -1,0 +1,11 @@
+pub mod DoubleLaws
+pub mod PartLaws
+pub mod Round
+pub mod CloseLaws
+pub mod NearLaws
+pub mod Largest
+pub mod DiffersLaws
+pub mod BoundLaws
+pub mod Loops
+pub mod HornerNear
+pub mod SumNear

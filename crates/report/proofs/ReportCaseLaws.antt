@@ -1,0 +1,22 @@
+-- The cases of specs/ReportCases.antt hold. By evaluation. Assumes nothing.
+use mathlib.Core.Path.{refl}
+use lib.Ieee.{ofBits, toBits, eq, size}
+use Rattle.format.specs.Faults.{headerFault, sheetFault}
+use Rattle.refusals.specs.Refusals.{solveFault}
+use Rattle.report.specs.Report.{digits, placesIn, countDigit, lines}
+use Rattle.report.specs.ReportOf.{numberOf, reportOf}
+use Rattle.report.specs.ReportCases.{Report-cases}
+
+pub report-cases : Report-cases
+unfolding digits placesIn countDigit lines ofBits toBits eq size reportOf numberOf solveFault sheetFault headerFault
+report-cases =
+    record {
+      worked-example = refl;
+      refusal-thirteen = refl;
+      relation-root-of-two = refl;
+      body-sixty-three = refl;
+      nothing-listed = refl;
+      more-digits = refl;
+      not-finite = refl;
+      nothing-read = refl;
+    }
