@@ -36,11 +36,17 @@ pub none-of : (a b : ℕ) → orElse a b ≡ 0 → (a ≡ 0) × (b ≡ 0)
 none-of zero b h = (refl, h)
 none-of (suc a) b h = absurd (omega arith)
 
--- ---- the header
+-- ---- two tests joined
 
-and-right : (a b : Bool) → a && b ≡ true → b ≡ true
+pub and-left : (a b : Bool) → a && b ≡ true → a ≡ true
+and-left true b h = refl
+and-left false b h = h
+
+pub and-right : (a b : Bool) → a && b ≡ true → b ≡ true
 and-right true b h = h
 and-right false b h = cc
+
+-- ---- the header
 
 passes : (a b c d : Bool) → _≡_ {A = ℕ} (cond a (cond b (cond c (cond d 0 4) 3) 2) 1) 0 → (a ≡ true) × (d ≡ true)
 passes true true true true h = (refl, refl)

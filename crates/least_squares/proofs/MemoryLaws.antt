@@ -4,9 +4,10 @@ use mathlib.Core.Path.{_≡_, refl, sym, ap, _∙_}
 use mathlib.Core.List.{List, _++_, append-nil}
 use Prim.Native.Nat.{ℕ, zero, suc, _+_, _-_, _≤_, _<_}
 use native.Mathlib.Omega.{arith}
+use native.Mathlib.Nat.{zero-add}
 use lib.ListN.{length, getD, set, take, drop, length-set, length-take, length-drop, length-append}
 use lib.Seq.{length-take-le, take-set-le, drop-set-lt, take-set-lt, drop-set-add, getD-take, getD-drop, take-take, drop-drop, ext-getD, take-append-add, take-add, drop-append-add, drop-length}
-use lib.Ieee.{Float}
+use lib.Ieee.{Float, nan}
 use borrow.Rule.Slice.PartMut.{putMid, post-is}
 use Rattle.least_squares.specs.Memory.{part, Kept}
 
@@ -48,6 +49,28 @@ part-part s o k a b h = ext-getD nan64 (part (part s o k) a b) (part s (o + a) b
         let e : o + (a + i) ≡ o + a + i = omega arith in
         part-at (part s o k) a b i nan64 m ∙ part-at s o k (a + i) nan64 n ∙ ap (λ (w : ℕ). getD s w nan64) e ∙ sym (part-at s (o + a) b i nan64 m)
 
+-- places whose doubles are all as they were: a part, the first k places, and a part of the places below hi
+pub part-same : (s t : List Float) (o k : ℕ) → length t ≡ length s → ((i : ℕ) → i < k → getD t (o + i) nan ≡ getD s (o + i) nan) → part t o k ≡ part s o k
+part-same s t o k e h = ext-getD nan (part t o k) (part s o k) (simp (length-take, length-drop) (omega arith)) at
+  where
+    at : (i : ℕ) → i < length (part t o k) → getD (part t o k) i nan ≡ getD (part s o k) i nan
+    at i l =
+        let m : i < k = omega (arith, simp length-take at l) in
+        part-at t o k i nan m ∙ h i m ∙ sym (part-at s o k i nan m)
+
+pub take-same : (s t : List Float) (k : ℕ) → length t ≡ length s → ((i : ℕ) → i < k → getD t i nan ≡ getD s i nan) → take k t ≡ take k s
+take-same s t k e h = part-same s t 0 k e (λ i l. rw (zero-add i) (h i l))
+
+pub part-below : (s t : List Float) (hi o k : ℕ) → length t ≡ length s → ((q : ℕ) → q < hi → getD t q nan ≡ getD s q nan) → o + k ≤ hi → part t o k ≡ part s o k
+part-below s t hi o k e h l = part-same s t o k e (λ i m. h (o + i) (omega arith))
+
+-- places whose first lo doubles are the same: each double, and each part
+pub taken-at : (s t : List Float) (lo j : ℕ) (d : Float) → take lo t ≡ take lo s → j < lo → getD t j d ≡ getD s j d
+taken-at s t lo j d e h = sym (getD-take lo t j d h) ∙ ap (λ (w : List Float). getD w j d) e ∙ getD-take lo s j d h
+
+pub taken-part : (s t : List Float) (lo o k : ℕ) → length t ≡ length s → take lo t ≡ take lo s → o + k ≤ lo → part t o k ≡ part s o k
+taken-part s t lo o k z e h = part-below s t lo o k z (λ q l. taken-at s t lo q nan e l) h
+
 -- ---- what a call leaves alone
 
 pub kept-refl : (s : List Float) (lo hi : ℕ) → Kept s s lo hi
@@ -72,25 +95,15 @@ more-dropped s t hi hi' h e =
 pub kept-wider : (s t : List Float) (lo hi lo' hi' : ℕ) → lo' ≤ lo → hi ≤ hi' → Kept s t lo hi → Kept s t lo' hi'
 kept-wider s t lo hi lo' hi' l h k = record { size = k .size; below = less-taken s t lo lo' l (k .below); above = more-dropped s t hi hi' h (k .above) }
 
--- the parts before and behind
+-- the parts and the places before and behind
 pub kept-part-below : (s t : List Float) (lo hi o k : ℕ) → o + k ≤ lo → Kept s t lo hi → part t o k ≡ part s o k
-kept-part-below s t lo hi o k h r = ext-getD lib.Ieee.nan (part t o k) (part s o k) lengths at
-  where
-    lengths : length (part t o k) ≡ length (part s o k)
-    lengths = simp (length-take, length-drop) (omega (arith, r .size))
-
-    at : (i : ℕ) → i < length (part t o k) → getD (part t o k) i lib.Ieee.nan ≡ getD (part s o k) i lib.Ieee.nan
-    at i l =
-        let m : i < k = omega (arith, simp length-take at l) in
-        let n : o + i < lo = omega arith in
-        part-at t o k i lib.Ieee.nan m ∙ sym (getD-take lo t (o + i) lib.Ieee.nan n) ∙ ap (λ (w : List Float). getD w (o + i) lib.Ieee.nan) (r .below) ∙ getD-take lo s (o + i) lib.Ieee.nan n
-        ∙ sym (part-at s o k i lib.Ieee.nan m)
+kept-part-below s t lo hi o k h r = taken-part s t lo o k (r .size) (r .below) h
 
 pub kept-part-above : (s t : List Float) (lo hi o k : ℕ) → hi ≤ o → Kept s t lo hi → part t o k ≡ part s o k
 kept-part-above s t lo hi o k h r = ap (take k) (more-dropped s t hi o h (r .above))
 
 pub kept-at-below : (s t : List Float) (lo hi j : ℕ) (d : Float) → j < lo → Kept s t lo hi → getD t j d ≡ getD s j d
-kept-at-below s t lo hi j d h r = sym (getD-take lo t j d h) ∙ ap (λ (w : List Float). getD w j d) (r .below) ∙ getD-take lo s j d h
+kept-at-below s t lo hi j d h r = taken-at s t lo j d (r .below) h
 
 pub kept-at-above : (s t : List Float) (lo hi j : ℕ) (d : Float) → hi ≤ j → Kept s t lo hi → getD t j d ≡ getD s j d
 kept-at-above s t lo hi j d h r =

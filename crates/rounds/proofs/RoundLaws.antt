@@ -8,9 +8,9 @@ use native.Mathlib.Omega.{arith}
 use native.Mathlib.Numerals.{add-one}
 use borrow.Author.Tests.{eq-eqb, ne-eqb, lt-ltb, le-ltb}
 use lib.Dec.{eqb, ltb}
-use lib.ListN.{length, getD, take, drop, length-take, length-drop, length-append}
-use lib.Seq.{ext-getD, getD-take, take-length, length-take-le, take-append-add, take-add, drop-drop}
-use lib.Ieee.{Float, nan, binary64, lt, le, ofBits}
+use lib.ListN.{length, take, drop, length-drop, length-append}
+use lib.Seq.{take-length, length-take-le, take-append-add, take-add, drop-drop}
+use lib.Ieee.{Float, binary64, lt, le, ofBits}
 use Rattle.numbers.specs.Double.{isFinite}
 use Rattle.numbers.specs.MaxAbs.{maxAbs}
 use Rattle.vectors.specs.Tol.{ASSEMBLY}
@@ -22,7 +22,8 @@ use Rattle.scene.specs.Solve.{Scene, rowsOf, MAX-ITER}
 use Rattle.scene.specs.Scene.{RowsAt, Slopes}
 use Rattle.slopes.specs.NearSlopes.{Apart}
 use Rattle.scene.specs.declared.scene.Scene.{Scene as SceneStruct}
-use Rattle.least_squares.proofs.MemoryLaws.{part-length, part-at, part-part, kept-part-below, kept-part-above, put-tail, kept-tail, tail-part}
+use Rattle.least_squares.proofs.MemoryLaws.{part-length, part-part, part-below, taken-part, kept-part-below, kept-part-above, put-tail, kept-tail, tail-part}
+use Rattle.rounds.proofs.TrialLaws.{keeps-refl, keeps-trans, leaves-refl, leaves-trans}
 use Rattle.rounds.specs.Places.{need, placesOf, Arranged}
 use Rattle.rounds.specs.Rounds.{slopesIn, matrixIn, weightsIn, unknownsIn, rowsIn, stateIn, triedIn, withinIn, Keeps, Leaves, TrialMade, TrialsMade, RoundMade, Ran}
 use Rattle.rounds.specs.declared.places.Places.{Places as PlacesStruct}
@@ -57,32 +58,8 @@ arranged c size h =
 pub arranged-as : (c : SceneStruct) (p : PlacesStruct) (size : ℕ) → p ≡ placesOf c → need c ≤ size → Arranged c p size
 arranged-as c p size e h = subst (λ (q : PlacesStruct). Arranged c q size) (sym e) (arranged c size h)
 
--- ---- what is left alone
-
 pub arranged-same : {c : SceneStruct} {p : PlacesStruct} {a b : ℕ} → b ≡ a → Arranged c p a → Arranged c p b
 arranged-same {c} {p} e h = subst (Arranged c p) (sym e) h
-
-pub keeps-refl : (c : SceneStruct) (p : PlacesStruct) (s : List Float) → Keeps c p s s
-keeps-refl c p s = record { size = refl; weights = refl; first = refl }
-
-pub keeps-trans : (c : SceneStruct) (p : PlacesStruct) (s t u : List Float) → Keeps c p s t → Keeps c p t u → Keeps c p s u
-keeps-trans c p s t u a b = record { size = b .size ∙ a .size; weights = b .weights ∙ a .weights; first = b .first ∙ a .first }
-
-pub leaves-refl : (c : SceneStruct) (p : PlacesStruct) (s : List Float) → Leaves c p s s
-leaves-refl c p s = record { keeps = keeps-refl c p s; slopes = refl; matrix = refl }
-
-pub leaves-trans : (c : SceneStruct) (p : PlacesStruct) (s t u : List Float) → Leaves c p s t → Leaves c p t u → Leaves c p s u
-leaves-trans c p s t u a b =
-    record { keeps = keeps-trans c p s t u (a .keeps) (b .keeps); slopes = b .slopes ∙ a .slopes; matrix = b .matrix ∙ a .matrix }
-
--- a part whose doubles are all as they were
-part-same : (s t : List Float) (o k : ℕ) → length t ≡ length s → ((i : ℕ) → i < k → getD t (o + i) nan ≡ getD s (o + i) nan) → part t o k ≡ part s o k
-part-same s t o k e h = ext-getD nan (part t o k) (part s o k) (simp (length-take, length-drop) (omega arith)) at
-  where
-    at : (i : ℕ) → i < length (part t o k) → getD (part t o k) i nan ≡ getD (part s o k) i nan
-    at i l =
-        let m : i < k = omega (arith, simp length-take at l) in
-        part-at t o k i nan m ∙ h i m ∙ sym (part-at s o k i nan m)
 
 -- ---- trials, by the definitions
 
@@ -267,9 +244,7 @@ slopes-part sc s t j n rows x a o k h l g =
 
 -- a part before the slopes
 slopes-below : (sc : Scene) (s t : List Float) (j n rows x a o k : ℕ) → o + k ≤ j → Slopes sc s t j n rows x a → part t o k ≡ part s o k
-slopes-below sc s t j n rows x a o k h g =
-    part-same s t o k (g .size)
-    (λ i l. sym (getD-take j t (o + i) nan (omega arith)) ∙ ap (λ (w : List Float). getD w (o + i) nan) (g .below) ∙ getD-take j s (o + i) nan (omega arith))
+slopes-below sc s t j n rows x a o k h g = taken-part s t j o k (g .size) (g .below) h
 
 -- ---- a round in memory
 
@@ -460,7 +435,7 @@ module _ (f : List Float → List Float) (winv : List Float) (tol : Float) (most
 module _ (sc : Scene) (c : SceneStruct) (p : PlacesStruct) (s u : List Float) (at : Arranged c p (length s)) (rows : RowsAt sc s u (p .x) (c .n) (p .rows) (c .rows) (p .poses)) where
   -- a part before the rows is as it was
   run-same : (o k : ℕ) → o + k ≤ p .rows → part u o k ≡ part s o k
-  run-same o k h = part-same s u o k (rows .size) (λ i l. rows .below (o + i) (omega arith))
+  run-same o k h = part-below s u _ o k (rows .size) (rows .below) (omega arith)
 
   run-keeps : Keeps c p s u
   run-keeps = record { size = rows .size; weights = run-same (p .weights) (c .n) (omega arith); first = run-same (p .first) (c .n) (omega arith) }

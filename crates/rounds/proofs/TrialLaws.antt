@@ -6,8 +6,8 @@ use mathlib.Core.Option.{Option, none, some}
 use Prim.Native.Nat.{ℕ, suc, _+_, _-_, _*_, _≤_, _<_}
 use native.Mathlib.Omega.{arith}
 use lib.Ieee.{Float, nan, binary64, mul, lt, ofBits}
-use lib.ListN.{length, getD, set, take, drop, length-take, length-drop}
-use lib.Seq.{take-length, take-suc, take-suc-set, getD-take, getD-drop, drop-set-add, drop-drop, ext-getD}
+use lib.ListN.{length, getD, set, take, drop, length-drop}
+use lib.Seq.{take-length, take-suc, take-suc-set, getD-drop, drop-set-add, drop-drop}
 use Rattle.numbers.specs.Double.{isFinite}
 use Rattle.vectors.specs.Tol.{ASSEMBLY}
 use Rattle.least_squares.specs.Memory.{part, Kept}
@@ -17,11 +17,26 @@ use Rattle.least_squares.specs.Dense.{given, Dense}
 use Rattle.scene.specs.Scene.{RowsAt}
 use Rattle.scene.specs.Solve.{Scene, rowsOf}
 use Rattle.scene.specs.declared.scene.Scene.{Scene as SceneStruct}
-use Rattle.least_squares.proofs.MemoryLaws.{part-at, kept-trans, kept-wider, kept-part-below, kept-part-above, kept-at-above, kept-tail, tail-part}
+use Rattle.least_squares.proofs.MemoryLaws.{take-same, part-below, taken-part, kept-trans, kept-wider, kept-part-below, kept-part-above, kept-at-above, kept-tail, tail-part}
 use Rattle.rounds.specs.declared.places.Places.{Places as PlacesStruct}
 use Rattle.rounds.specs.declared.trial.Tried.{Tried as TriedStruct}
 use Rattle.rounds.specs.Places.{Arranged}
-use Rattle.rounds.specs.Rounds.{slopesIn, matrixIn, weightsIn, unknownsIn, rowsIn, stateIn, triedIn, answerIn, Leaves, Answered, Advanced, Taken, TrialMade}
+use Rattle.rounds.specs.Rounds.{slopesIn, matrixIn, weightsIn, unknownsIn, rowsIn, stateIn, triedIn, answerIn, Keeps, Leaves, Answered, Advanced, Taken, TrialMade}
+
+-- ---- what is left alone
+
+pub keeps-refl : (c : SceneStruct) (p : PlacesStruct) (s : List Float) → Keeps c p s s
+keeps-refl c p s = record { size = refl; weights = refl; first = refl }
+
+pub keeps-trans : (c : SceneStruct) (p : PlacesStruct) (s t u : List Float) → Keeps c p s t → Keeps c p t u → Keeps c p s u
+keeps-trans c p s t u a b = record { size = b .size ∙ a .size; weights = b .weights ∙ a .weights; first = b .first ∙ a .first }
+
+pub leaves-refl : (c : SceneStruct) (p : PlacesStruct) (s : List Float) → Leaves c p s s
+leaves-refl c p s = record { keeps = keeps-refl c p s; slopes = refl; matrix = refl }
+
+pub leaves-trans : (c : SceneStruct) (p : PlacesStruct) (s t u : List Float) → Leaves c p s t → Leaves c p t u → Leaves c p s u
+leaves-trans c p s t u a b =
+    record { keeps = keeps-trans c p s t u (a .keeps) (b .keeps); slopes = b .slopes ∙ a .slopes; matrix = b .matrix ∙ a .matrix }
 
 -- ---- copying back
 
@@ -110,22 +125,6 @@ module _ (c : SceneStruct) (p : PlacesStruct) (s u v w q : List Float) (mu most 
 
 -- ---- a step further
 
-part-same : (s t : List Float) (o k : ℕ) → length t ≡ length s → ((i : ℕ) → i < k → getD t (o + i) nan ≡ getD s (o + i) nan) → part t o k ≡ part s o k
-part-same s t o k e h = ext-getD nan (part t o k) (part s o k) (simp (length-take, length-drop) (omega arith)) at
-  where
-    at : (i : ℕ) → i < length (part t o k) → getD (part t o k) i nan ≡ getD (part s o k) i nan
-    at i l =
-        let m : i < k = omega (arith, simp length-take at l) in
-        part-at t o k i nan m ∙ h i m ∙ sym (part-at s o k i nan m)
-
-take-same : (s t : List Float) (k : ℕ) → length t ≡ length s → ((i : ℕ) → i < k → getD t i nan ≡ getD s i nan) → take k t ≡ take k s
-take-same s t k e h = ext-getD nan (take k t) (take k s) (simp length-take (omega arith)) at
-  where
-    at : (i : ℕ) → i < length (take k t) → getD (take k t) i nan ≡ getD (take k s) i nan
-    at i l =
-        let m : i < k = omega (arith, simp length-take at l) in
-        getD-take k t i nan m ∙ h i m ∙ sym (getD-take k s i nan m)
-
 pub advanced : (sc : Scene) (c : SceneStruct) (p : PlacesStruct) (s u t : List Float) (cost : Float) (size : ℕ) → Arranged c p size
     → Stepped s u (c .n) (c .rows) (p .x) (p .slopes) (p .weights) (p .right) (p .next)
     → RowsAt sc u t (p .next) (c .n) (p .ahead) (c .rows) (p .poses)
@@ -141,21 +140,9 @@ advanced sc c p s u t cost size h a b e =
     }
   where
     same : part t (p .next) (c .n) ≡ part u (p .next) (c .n)
-    same = part-same u t (p .next) (c .n) (b .size) (λ i l. b .below (p .next + i) (omega arith))
+    same = part-below u t _ (p .next) (c .n) (b .size) (b .below) (omega arith)
 
 -- ---- a trial
-
-leaves-trans : (c : SceneStruct) (p : PlacesStruct) (s t u : List Float) → Leaves c p s t → Leaves c p t u → Leaves c p s u
-leaves-trans c p s t u a b =
-    record {
-      keeps = record {
-        size = b .keeps .size ∙ a .keeps .size;
-        weights = b .keeps .weights ∙ a .keeps .weights;
-        first = b .keeps .first ∙ a .keeps .first;
-      };
-      slopes = b .slopes ∙ a .slopes;
-      matrix = b .matrix ∙ a .matrix;
-    }
 
 -- the state at entry still stands, and what a trial reads
 pub record Stands (c : SceneStruct) (p : PlacesStruct) (s t : List Float) : Type 0 where
@@ -205,11 +192,8 @@ advanced-stands sc c p s t cost size h a =
       };
     }
   where
-    at : (i : ℕ) → i < p .next → getD t i nan ≡ getD s i nan
-    at i l = sym (getD-take (p .next) t i nan l) ∙ ap (λ (w : List Float). getD w i nan) (a .below) ∙ getD-take (p .next) s i nan l
-
     below : (o k : ℕ) → o + k ≤ p .next → part t o k ≡ part s o k
-    below o k l = part-same s t o k (a .size) (λ i m. at (o + i) (omega arith))
+    below o k l = taken-part s t (p .next) o k (a .size) (a .below) l
 
 -- by whether there is an answer
 not-given : (o : Option (List Float)) → false ≡ given o → o ≡ none

@@ -9,8 +9,8 @@ use native.Mathlib.Omega.{arith}
 use native.Mathlib.Numerals.{add-one}
 use native.Mathlib.Decide.{decLt, ℕ-discrete}
 use borrow.Author.Tests.{eq-eqb, ne-eqb}
-use lib.ListN.{length, getD, set, take, drop, length-set, length-take, length-drop}
-use lib.Seq.{getD-set-same, getD-set-other, set-set, set-getD, ext-getD, drop-drop, take-append-seam, drop-append-seam}
+use lib.ListN.{length, getD, set, take, drop}
+use lib.Seq.{getD-set-other, set-set, set-getD, drop-drop, take-append-seam, drop-append-seam}
 use lib.Ieee.{Float, nan, binary64, add, sub}
 use Rattle.relations.specs.Geometry.{Pose}
 use Rattle.relations.specs.Model.{Body, Rel}
@@ -22,23 +22,14 @@ use Rattle.least_squares.specs.Lm.{stepOf, slopeOf, slope}
 use Rattle.least_squares.specs.LmPosts.{Copied}
 use Rattle.least_squares.specs.Memory.{part}
 use Rattle.scene.specs.Solve.{Scene, isBody, planeBody, names, moves, layoutFrom, layout, unknownsIn, three, movedPose, poseAt, posesFrom, posesAt, endPose, rowsAt, allRows, rowsOf}
-use Rattle.scene.specs.Scene.{firstUnknown, sceneOf, Laid, bodyPose, relRows, poseDoubles, posesDoubles, poseIn, posesIn, Put, PutNext, Column, SlopeColumn}
+use Rattle.scene.specs.Scene.{firstUnknown, sceneOf, Laid, bodyPose, relRows, poseDoubles, posesDoubles, posesIn, Put, PutNext, Column, SlopeColumn}
 use Rattle.scene.specs.declared.scene.Scene.{Scene as SceneStruct}
-use Rattle.least_squares.proofs.MemoryLaws.{part-at, part-set, part-set-below, part-part, kept-refl, kept-set, kept-part-below, kept-part-above, kept-at-below, kept-at-above}
-use Rattle.least_squares.proofs.TableLaws.{length-listOf, in-rows}
-use Rattle.scene.proofs.SceneLaws.{Growing, growing-room, restRows, rows-next, next-layout, length-layout, length-poses, length-bodies, laid-length, bodies-next, layout-next, poses-kept, poses-there, pose-of}
+use Rattle.least_squares.proofs.MemoryLaws.{part-at, part-set, part-set-below, part-part, part-same, part-below, kept-refl, kept-set, kept-part-below, kept-part-above, kept-at-below, kept-at-above}
+use Rattle.least_squares.proofs.TableLaws.{in-rows}
+use Rattle.scene.proofs.SceneLaws.{Growing, growing-room, restRows, rows-next, next-layout, length-layout, length-poses, length-bodies, laid-length, bodies-next, layout-next, poses-kept, poses-there, poses-put}
 use Rattle.slopes.proofs.SlopeLaws.{Columns, columns-start, columns-part, slope-column-is}
 use Rattle.slopes.specs.NearSlopes.{Apart, unknownsAt, RowsBut, Near, NearRows, Among, Standing, StandingBut, NearColumn, ColumnsFrom, SixColumns, BodyColumns, Started, given}
 use Rattle.slopes.specs.declared.near_slopes.SlopeParts.{SlopeParts as PartsStruct}
-
--- a part whose doubles are all as they were
-part-same : (s t : List Float) (o k : ℕ) → length t ≡ length s → ((i : ℕ) → i < k → getD t (o + i) nan ≡ getD s (o + i) nan) → part t o k ≡ part s o k
-part-same s t o k e h = ext-getD nan (part t o k) (part s o k) (simp (length-take, length-drop) (omega arith)) at
-  where
-    at : (i : ℕ) → i < length (part t o k) → getD (part t o k) i nan ≡ getD (part s o k) i nan
-    at i l =
-        let m : i < k = omega (arith, simp length-take at l) in
-        part-at t o k i nan m ∙ h i m ∙ sym (part-at s o k i nan m)
 
 -- ---- a relation that does not name the body
 
@@ -200,63 +191,7 @@ given-still sc i e = ap (given sc) (add-one i) ∙ none-given (layout sc) i e
 pub given-all : (sheet : List ℕ) (c : SceneStruct) (i : ℕ) → Laid sheet c → i ≡ c .m → given (sceneOf sheet c) i ≡ c .n
 given-all sheet c i laid e = ap unknownsIn (take-whole (layout (sceneOf sheet c)) i (laid-length sheet c ∙ sym e)) ∙ sym (laid .unknown-count)
 
--- ---- one pose put anew
-
--- twelve doubles that are the same are the same pose
-pose-same : (s t : List Float) (w : ℕ) → ((q : ℕ) → w ≤ q → q < w + 12 → getD t q nan ≡ getD s q nan) → poseIn t w ≡ poseIn s w
-pose-same s t w h =
-    let a0 = h w (omega arith) (omega arith) in
-    let a1 = h (w + 1) (omega arith) (omega arith) in
-    let a2 = h (w + 2) (omega arith) (omega arith) in
-    let b0 = h (w + 3) (omega arith) (omega arith) in
-    let b1 = h (w + 3 + 1) (omega arith) (omega arith) in
-    let b2 = h (w + 3 + 2) (omega arith) (omega arith) in
-    let c0 = h (w + 6) (omega arith) (omega arith) in
-    let c1 = h (w + 6 + 1) (omega arith) (omega arith) in
-    let c2 = h (w + 6 + 2) (omega arith) (omega arith) in
-    let d0 = h (w + 9) (omega arith) (omega arith) in
-    let d1 = h (w + 9 + 1) (omega arith) (omega arith) in
-    let d2 = h (w + 9 + 2) (omega arith) (omega arith) in
-    λ v.
-    record {
-      r = record { r0 = record { x = a0 v; y = a1 v; z = a2 v }; r1 = record { x = b0 v; y = b1 v; z = b2 v }; r2 = record { x = c0 v; y = c1 v; z = c2 v } };
-      t = record { x = d0 v; y = d1 v; z = d2 v };
-    }
-
--- the pose that was put
-pose-put : (s t : List Float) (w : ℕ) (q : Pose Float) → Put s t w 12 (poseDoubles q) → poseIn t w ≡ q
-unfolding posesDoubles
-pose-put s t w q y =
-    let e : posesIn t w 1 ≡ q ∷ [] = poses-there t w 12 (q ∷ []) (y .holds) refl 1 refl in
-    let z : w ≡ w + 12 * 0 = omega arith in
-    ap (poseIn t) z ∙ pose-of t w 1 0 (omega arith) ∙ ap (λ (l : List (Pose Float)). getD l 0 ground) e
-
-module _ (s t : List Float) (p m i : ℕ) (q : Pose Float) (h : i < m) (y : Put s t (p + 12 * i) 12 (poseDoubles q)) where
-  pose-other : (k : ℕ) → (k ≡ i → ⊥) → poseIn t (p + 12 * k) ≡ poseIn s (p + 12 * k)
-  pose-other k n = pose-same s t (p + 12 * k) (λ w a b. go w a b (decLt k i))
-    where
-      go : (w : ℕ) → p + 12 * k ≤ w → w < p + 12 * k + 12 → Dec (k < i) → getD t w nan ≡ getD s w nan
-      go w a b (yes l) = kept-at-below s t (p + 12 * i) (p + 12 * i + 12) w nan (omega arith) (y .kept)
-      go w a b (no l) =
-          let g : i < k = omega arith in
-          kept-at-above s t (p + 12 * i) (p + 12 * i + 12) w nan (omega arith) (y .kept)
-
-  poses-put : posesIn t p m ≡ set (posesIn s p m) i q
-  poses-put = ext-getD ground (posesIn t p m) (set (posesIn s p m) i q) lengths at
-    where
-      lengths : length (posesIn t p m) ≡ length (set (posesIn s p m) i q)
-      lengths = length-listOf _ m ∙ sym (length-set (posesIn s p m) i q ∙ length-listOf _ m)
-
-      at : (k : ℕ) → k < length (posesIn t p m) → getD (posesIn t p m) k ground ≡ getD (set (posesIn s p m) i q) k ground
-      at k l =
-          let b : k < m = rw (length-listOf (λ i. poseIn t (p + 12 * i)) m) at l in
-          elim (ℕ-discrete k i) [
-            | yes e ↦
-                sym (pose-of t p m k b) ∙ ap (λ (w : ℕ). poseIn t (p + 12 * w)) e ∙ pose-put s t (p + 12 * i) q y
-                ∙ sym (getD-set-same (posesIn s p m) i q ground (rw (length-listOf (λ i. poseIn s (p + 12 * i)) m) h))
-                ∙ ap (λ (w : ℕ). getD (set (posesIn s p m) i q) w ground) (sym e)
-            | no n ↦ sym (pose-of t p m k b) ∙ pose-other k n ∙ pose-of s p m k b ∙ sym (getD-set-other (posesIn s p m) i k q ground n)
-          ]
+-- ---- a body put anew
 
 -- a body put where it stands
 poses-back : (xs : List Float) (bodies : List Body) (l : List (Option ℕ)) (i : ℕ) (b : Body) (k : Option ℕ) (bs : List Body) (ks : List (Option ℕ)) → drop i bodies ≡ b ∷ bs → drop i l ≡ k ∷ ks
@@ -417,7 +352,7 @@ module _ (sc : Scene) (c : SceneStruct) (at : PartsStruct) (s : List Float) (siz
 
   module _ (s2 : List Float) (u : Float) (up : NearRows sc c at (set s (at .next + k) u) s2 (at .ahead)) where
     copy-up : part s2 (at .next) (c .n) ≡ set (unknownsAt c at s) k u
-    copy-up = part-same (set s (at .next + k) u) s2 (at .next) (c .n) (up .rows-at .size) (λ q l. up .rows-at .below (at .next + q) (omega arith)) ∙ copy-set u
+    copy-up = part-below (set s (at .next + k) u) s2 _ (at .next) (c .n) (up .rows-at .size) (up .rows-at .below) (omega arith) ∙ copy-set u
 
     copy-again : (u2 : Float) → part (set s2 (at .next + k) u2) (at .next) (c .n) ≡ set (unknownsAt c at s) k u2
     copy-again u2 = part-set s2 (at .next) (c .n) k u2 k-in ∙ ap (λ (l : List Float). set l k u2) copy-up ∙ set-set (unknownsAt c at s) k u u2
@@ -446,7 +381,7 @@ module _ (sc : Scene) (c : SceneStruct) (at : PartsStruct) (s : List Float) (siz
       ahead-near =
           near-made sc c at t i (at .ahead) (unknownsAt c at s) (set (unknownsAt c at s) k u) (λ w. unknown-far sc i k (unknownsAt c at s) u w among) poses-end
           (kept-part-above (set s4 (at .next + k) v) t (at .slopes) (at .slopes + c .rows * c .n) (at .ahead) (c .rows) (omega arith) (col .kept) ∙ part-set-below s4 (at .ahead) (c .rows) (at .next + k) v (omega arith)
-          ∙ part-same (set s2 (at .next + k) u2) s4 (at .ahead) (c .rows) (down .rows-at .size) (λ q l. down .rows-at .below (at .ahead + q) (omega arith))
+          ∙ part-below (set s2 (at .next + k) u2) s4 _ (at .ahead) (c .rows) (down .rows-at .size) (down .rows-at .below) (omega arith)
           ∙ part-set-below s2 (at .ahead) (c .rows) (at .next + k) u2 (omega arith)
           ∙ up .rows-at .holds
           ∙ ap (rowsOf sc) (copy-set u))
@@ -463,7 +398,7 @@ module _ (sc : Scene) (c : SceneStruct) (at : PartsStruct) (s : List Float) (siz
           let q : v ≡ getD (unknownsAt c at s) k nan = e ∙ sym (part-at s (at .x) (c .n) k nan k-in) in
           kept-part-above (set s4 (at .next + k) v) t (at .slopes) (at .slopes + c .rows * c .n) (at .next) (c .n) (omega arith) (col .kept)
           ∙ part-set s4 (at .next) (c .n) k v k-in
-          ∙ ap (λ (l : List Float). set l k v) (part-same (set s2 (at .next + k) u2) s4 (at .next) (c .n) (down .rows-at .size) (λ q l. down .rows-at .below (at .next + q) (omega arith)) ∙ copy-again u2)
+          ∙ ap (λ (l : List Float). set l k v) (part-below (set s2 (at .next + k) u2) s4 _ (at .next) (c .n) (down .rows-at .size) (down .rows-at .below) (omega arith) ∙ copy-again u2)
           ∙ set-set (unknownsAt c at s) k u2 v
           ∙ ap (set (unknownsAt c at s) k) q
           ∙ set-getD (unknownsAt c at s) k nan
@@ -502,7 +437,7 @@ module _ (sc : Scene) (c : SceneStruct) (at : PartsStruct) where
   module _ (size : ℕ) (apart : Apart c at size) where
     -- the unknowns are as they were
     pub columns-from-part : (s t : List Float) (lo hi : ℕ) → ColumnsFrom sc c at s t lo hi → unknownsAt c at t ≡ unknownsAt c at s
-    columns-from-part s t lo hi g = part-same s t (at .x) (c .n) (g .size) (λ i l. g .below (at .x + i) (omega arith))
+    columns-from-part s t lo hi g = part-below s t _ (at .x) (c .n) (g .size) (g .below) (omega arith)
 
     pub columns-from-step : (s t u : List Float) (k e : ℕ) → k + e < c .n → ColumnsFrom sc c at s t k (k + e)
         → SlopeColumn sc t u (at .slopes) (c .n) (c .rows) (at .x) (at .ahead) (k + e)
@@ -546,7 +481,7 @@ module _ (sc : Scene) (c : SceneStruct) (at : PartsStruct) (s s1 s2 : List Float
 
   module _ (first : NearRows sc c at s1 s2 (at .ahead)) where
     copy-first : part s2 (at .next) (c .n) ≡ unknownsAt c at s
-    copy-first = part-same s1 s2 (at .next) (c .n) (first .rows-at .size) (λ q l. first .rows-at .below (at .next + q) (omega arith)) ∙ six .standing .copy
+    copy-first = part-below s1 s2 _ (at .next) (c .n) (first .rows-at .size) (first .rows-at .below) (omega arith) ∙ six .standing .copy
 
     poses-first : posesIn s2 (at .poses) (c .m) ≡ posesAt sc (unknownsAt c at s)
     poses-first = first .poses ∙ ap (posesAt sc) (six .standing .copy)
@@ -577,9 +512,9 @@ module _ (sc : Scene) (c : SceneStruct) (at : PartsStruct) (s s1 s2 : List Float
               };
           standing =
               record {
-                copy = part-same s2 t (at .next) (c .n) (second .rows-at .size) (λ q l. second .rows-at .below (at .next + q) (omega arith)) ∙ copy-first;
+                copy = part-below s2 t _ (at .next) (c .n) (second .rows-at .size) (second .rows-at .below) (omega arith) ∙ copy-first;
                 poses = second .poses ∙ ap (posesAt sc) copy-first;
-                ahead = part-same s2 t (at .ahead) (c .rows) (second .rows-at .size) (λ q l. second .rows-at .below (at .ahead + q) (omega arith)) ∙ first .rows-at .holds ∙ ap (rowsOf sc) (six .standing .copy);
+                ahead = part-below s2 t _ (at .ahead) (c .rows) (second .rows-at .size) (second .rows-at .below) (omega arith) ∙ first .rows-at .holds ∙ ap (rowsOf sc) (six .standing .copy);
                 behind = second .rows-at .holds ∙ ap (rowsOf sc) copy-first;
               };
         }
@@ -663,7 +598,7 @@ module _ (sc : Scene) (c : SceneStruct) (at : PartsStruct) where
     columns-still s t k g = columns-part sc s t (at .slopes) (c .n) (c .rows) (at .x) (at .ahead) k (apart .x) g
 
     pub started-still : (s t : List Float) → Started sc c at s t → unknownsAt c at t ≡ unknownsAt c at s
-    started-still s t g = part-same s t (at .x) (c .n) (g .size) (λ i l. g .below (at .x + i) (omega arith))
+    started-still s t g = part-below s t _ (at .x) (c .n) (g .size) (g .below) (omega arith)
 
     -- from the scratch at entry: what is below the copy is as it was there
     pub slopes-from : (s s1 t : List Float) (k : ℕ) → Started sc c at s s1 → ColumnsTo s1 t k → Columns sc s t (at .slopes) (c .n) (c .rows) (at .x) (at .next) k

@@ -1,19 +1,19 @@
 -- The slopes, column by column: what a store and a column leave of the other columns, and what the rows ahead and behind are. Assumes nothing.
-use mathlib.Core.Path.{_≡_, refl, sym, ap, subst, _∙_}
+use mathlib.Core.Path.{_≡_, refl, sym, ap, _∙_}
 use mathlib.Core.Logic.{_⊎_, inl, inr, ⊎-elim}
-use mathlib.Core.List.{List, [], _∷_, _++_}
+use mathlib.Core.List.{List}
 use Prim.Native.Nat.{ℕ, zero, suc, _+_, _-_, _*_, _≤_, _<_}
 use native.Mathlib.Omega.{arith}
 use native.Mathlib.Numerals.{add-one}
 use native.Mathlib.Nat.{not-suc-le-zero, le-of-suc-le-suc, eq-or-lt-of-le, suc-mul, mul-le-mul-right}
-use lib.ListN.{length, getD, set, take, drop, length-set, length-take}
-use lib.Seq.{getD-set-same, getD-set-other, getD-take, ext-getD, set-set, length-take-le}
+use lib.ListN.{length, getD, set, length-set}
+use lib.Seq.{getD-set-same, getD-set-other, set-set}
 use lib.Ieee.{Float, nan, binary64, add, sub}
 use Rattle.least_squares.specs.Lm.{stepOf, slopeOf, ahead, behind, slope, jacobian}
 use Rattle.least_squares.specs.Memory.{part, Kept}
 use Rattle.scene.specs.Solve.{Scene, rowsOf}
 use Rattle.scene.specs.Scene.{RowsAt, Column, SlopeColumn, Slopes}
-use Rattle.least_squares.proofs.MemoryLaws.{part-length, part-at, part-set, kept-refl, kept-set, kept-at-below, kept-at-above}
+use Rattle.least_squares.proofs.MemoryLaws.{part-length, part-at, part-set, part-same, take-same, part-below, kept-refl, kept-set, kept-at-below, kept-at-above}
 use Rattle.least_squares.proofs.TableLaws.{in-rows, table-ext}
 
 -- ---- places of a matrix
@@ -78,14 +78,6 @@ filling-end s t j n rows c i f e g = record { entries = λ k h. g .entries k (rw
 
 -- ---- the rows ahead and behind
 
-part-same : (s t : List Float) (o k : ℕ) → length t ≡ length s → ((i : ℕ) → i < k → getD t (o + i) nan ≡ getD s (o + i) nan) → part t o k ≡ part s o k
-part-same s t o k e h = ext-getD nan (part t o k) (part s o k) (simp (length-take, lib.ListN.length-drop) (omega arith)) at
-  where
-    at : (i : ℕ) → i < length (part t o k) → getD (part t o k) i nan ≡ getD (part s o k) i nan
-    at i l =
-        let m : i < k = omega (arith, simp length-take at l) in
-        part-at t o k i nan m ∙ h i m ∙ sym (part-at s o k i nan m)
-
 module _ (sc : Scene) (s s2 s4 t : List Float) (j n rows x y a b p c : ℕ) (v h : Float)
     (c-in : c < n) (x-j : x + n ≤ j) (j-y : j + rows * n ≤ y) (y-a : y + n ≤ a) (a-b : a + rows ≤ b) (b-p : b + rows ≤ p) (p-s : p ≤ length s)
     (same : part s y n ≡ part s x n) (v-is : v ≡ getD s (x + c) nan) (h-is : h ≡ stepOf v)
@@ -112,7 +104,7 @@ module _ (sc : Scene) (s s2 s4 t : List Float) (j n rows x y a b p c : ℕ) (v h
   behind-y : part (set s2 (y + c) (sub binary64 v h)) y n ≡ set (part s x n) c (sub binary64 v h)
   behind-y =
       part-set s2 y n c (sub binary64 v h) c-in
-      ∙ ap (λ (l : List Float). set l c (sub binary64 v h)) (part-same (set s (y + c) (add binary64 v h)) s2 y n (up .size) (λ i l. up .below (y + i) (omega arith)) ∙ ahead-y)
+      ∙ ap (λ (l : List Float). set l c (sub binary64 v h)) (part-below (set s (y + c) (add binary64 v h)) s2 a y n (up .size) (up .below) y-a ∙ ahead-y)
       ∙ set-set (part s x n) c (add binary64 v h) (sub binary64 v h)
 
   behind-is : part s4 b rows ≡ rowsOf sc (behind (part s x n) c (stepOf (getD (part s x n) c nan)))
@@ -180,7 +172,7 @@ columns-start sc s j n rows x a = record { size = refl; entries = λ i d h l. ab
 
 -- the unknowns are as they were
 pub columns-part : (sc : Scene) (s t : List Float) (j n rows x a c : ℕ) → x + n ≤ j → Columns sc s t j n rows x a c → part t x n ≡ part s x n
-columns-part sc s t j n rows x a c h g = part-same s t x n (g .size) (λ i m. g .below (x + i) (omega arith))
+columns-part sc s t j n rows x a c h g = part-below s t _ x n (g .size) (g .below) (omega arith)
 
 pub columns-end : (sc : Scene) (s t : List Float) (j n rows x a c : ℕ) → c ≡ n → x + n ≤ j → j + rows * n ≤ a → a ≤ length s → Columns sc s t j n rows x a c
     → Slopes sc s t j n rows x a
@@ -194,6 +186,6 @@ columns-end sc s t j n rows x a c e h l k g =
           table-ext (slope (rowsOf sc) (part s x n)) n rows (part t j (rows * n)) (part-length t j (rows * n) (omega arith))
           (λ i d u v. part-at t j (rows * n) (i * n + d) nan (in-rows i d n rows u v) ∙ g .entries i d u (rw e v))
           ∙ ap (λ (q : ℕ). Rattle.least_squares.specs.Lm.tableOf (slope (rowsOf sc) (part s x n)) q rows) (sym w);
-      below = ext-getD nan (take j t) (take j s) (simp length-take (omega arith)) (λ i u. let v : i < j = omega (arith, simp length-take at u) in getD-take j t i nan v ∙ g .below i v ∙ sym (getD-take j s i nan v));
+      below = take-same s t j (g .size) (g .below);
       between = part-same s t (j + rows * n) (a - (j + rows * n)) (g .size) (λ i u. g .between (j + rows * n + i) (omega arith) (omega arith));
     }
