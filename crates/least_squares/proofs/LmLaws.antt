@@ -4,6 +4,7 @@ use mathlib.Core.List.{List, [], _∷_, _++_}
 use Prim.Native.Nat.{ℕ, zero, suc, _+_, _-_, _*_, _≤_, _<_, min, max}
 use mathlib.Core.Logic.{inl, inr}
 use native.Mathlib.Omega.{arith}
+use native.Mathlib.Decide.{decLt}
 use native.Mathlib.Nat.{zero-add, mul-le-mul-right, suc-mul, eq-or-lt-of-le, le-of-suc-le-suc}
 use native.Mathlib.Numerals.{add-one}
 use lib.ListN.{length, getD, set, take, drop, length-drop}
@@ -29,16 +30,20 @@ set-entry s a rows i j v h l =
     let e : a + i * rows + j ≡ a + (i * rows + j) = omega arith in
     ap (λ (w : ℕ). part (set s w v) a (rows * rows)) e ∙ part-set s a (rows * rows) (i * rows + j) v (in-rows i j rows rows h l)
 
--- one more double of a copy
-pub copy-step : (o s : List Float) (a b k i : ℕ) → a + k ≤ b → b + k ≤ length o → i < k → Kept o s b (b + k) → part s b i ≡ part o a i
+-- one more double of a copy: what is still to be copied stands outside the places written, before or behind them
+pub copy-step : (o s : List Float) (a b k i : ℕ) → min a b + k ≤ max a b → max a b + k ≤ length o → i < k → Kept o s b (b + k) → part s b i ≡ part o a i
     → part (set s (b + i) (getD s (a + i) nan)) b (suc i) ≡ part o a (suc i)
 copy-step o s a b k i h l m r e =
     let v = getD s (a + i) nan in
     let z = r .size in
     let h1 : i < length (drop b s) = simp length-drop (omega arith) in
     let h2 : i < length (drop a o) = simp length-drop (omega arith) in
-    let q : v ≡ getD (drop a o) i nan = kept-at-below o s b (b + k) (a + i) nan (omega arith) r ∙ sym (getD-drop a o i nan) in
+    let q : v ≡ getD (drop a o) i nan = still (decLt a b) ∙ sym (getD-drop a o i nan) in
     ap (take (suc i)) (drop-set-add b s i v) ∙ take-suc-set (drop b s) i v h1 ∙ (λ j. e j ++ (q j ∷ [])) ∙ sym (take-suc (drop a o) i nan h2)
+  where
+    still : Dec (a < b) → getD s (a + i) nan ≡ getD o (a + i) nan
+    still (yes u) = kept-at-below o s b (b + k) (a + i) nan (omega arith) r
+    still (no u) = kept-at-above o s b (b + k) (a + i) nan (omega arith) r
 
 -- a row of the slopes times another, in memory that keeps the slopes and the weights
 pub gram-is : (o s : List Float) (n rows w lo hi i k : ℕ) → i < rows → k < rows → rows * n ≤ lo → hi ≤ w → Kept o s lo hi

@@ -1,7 +1,7 @@
 // lm.rs: sums, slopes' matrix, damping and the step, over parts of the lent scratch. `specs/Lm.antt` has the definitions.
 
 ghost use mathlib.Core.Path.{_≡_};
-ghost use Prim.Native.Nat.{ℕ, _+_, _*_, _-_, _≤_, _<_};
+ghost use Prim.Native.Nat.{ℕ, _+_, _*_, _-_, _≤_, _<_, min, max};
 ghost use lib.ListN.{length, getD, set};
 ghost use Rattle.numbers.specs.MaxAbs as largest;
 ghost use Rattle.least_squares.specs.Memory.{part, Kept};
@@ -103,10 +103,10 @@ pub fn diag_max(s: &[f64], a: usize, rows: usize) -> f64
     numbers::max(m, 1e-12)
 }
 
-// The k doubles from a on copied to b on, which stands behind them.
+// The k doubles from a on copied to b on, before or behind them: the two parts share no place.
 pub fn copy(s: &mut [f64], a: usize, b: usize, k: usize)
-    requires { ⌜ a + k ≤ b ⌝ }
-    requires { ⌜ b + k ≤ length (now s) ⌝ }
+    requires { ⌜ min a b + k ≤ max a b ⌝ }
+    requires { ⌜ max a b + k ≤ length (now s) ⌝ }
     ensures { λ _. ⌜ Copied (now (s .entry)) (now (s .exit)) a b k ⌝ }
 {
     for i in 0..k {

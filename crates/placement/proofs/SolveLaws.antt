@@ -3,14 +3,14 @@ use mathlib.Core.Path.{_≡_, refl, sym, ap, subst, _∙_}
 use mathlib.Core.Bool.{Bool, true, false, _||_, cond}
 use mathlib.Core.List.{List, [], _∷_, _++_, map, map-append, append-assoc, append-nil}
 use mathlib.Core.Option.{Option}
-use Prim.Native.Nat.{ℕ, zero, suc, _+_, _*_, _-_, _≤_, _<_}
+use Prim.Native.Nat.{ℕ, zero, suc, _+_, _*_, _≤_, _<_}
 use native.Mathlib.Omega.{arith}
 use native.Mathlib.Numerals.{add-one}
 use borrow.Author.Tests.{eq-eqb, ne-eqb}
-use lib.ListN.{length, getD, set, take, drop, length-take, length-drop}
-use lib.Seq.{take-suc, getD-drop, getD-take, ext-getD}
+use lib.ListN.{length, getD, set, take, drop, length-drop}
+use lib.Seq.{take-suc, getD-drop}
 use lib.Dec.{eqb}
-use lib.Ieee.{Float, nan, lt}
+use lib.Ieee.{Float, lt}
 use Rattle.numbers.specs.MaxAbs.{maxAbs}
 use Rattle.vectors.specs.Tol.{ASSEMBLY}
 use Rattle.vectors.specs.Space.{Frame}
@@ -28,9 +28,9 @@ use Rattle.scene.specs.Solve.{Scene, layout, unknowns, posesAt, rowsAt, rowsOf,
 use Rattle.judging.proofs.CountLaws.{rows-packed}
 use Rattle.relations.specs.declared.rows.Rows.{Rows as RowsStruct}
 use Rattle.scene.specs.declared.scene.Scene.{Scene as SceneStruct}
-use Rattle.least_squares.proofs.MemoryLaws.{kept-refl, kept-part-below, kept-part-above}
+use Rattle.least_squares.proofs.MemoryLaws.{take-same, taken-part, kept-refl, kept-part-below, kept-part-above}
 use Rattle.least_squares.proofs.TableLaws.{length-listOf}
-use Rattle.scene.proofs.SceneLaws.{put-one, put-then, rel-small, poses-there, length-poses, length-layout, length-bodies, drop-whole}
+use Rattle.scene.proofs.SceneLaws.{put-one, put-then, rel-small, poses-there, length-poses, length-layout, length-bodies}
 use Rattle.placement.specs.Answer.{frameDoubles, framesDoubles, Worst, Ended, Filled}
 use Rattle.rounds.specs.Places.{Arranged}
 use Rattle.rounds.specs.Rounds.{weightsIn, unknownsIn, firstIn, Ran}
@@ -139,26 +139,13 @@ frames-step sheet c s d e u p i w h x y =
 
 pub worst-is : (sc : Scene) (c : SceneStruct) (p : PlacesStruct) (s t : List Float) (x : ℕ) (r : Float) → RowsAt sc s t x (c .n) (p .ahead) (c .rows) (p .poses)
     → r ≡ maxAbs (part t (p .ahead) (c .rows)) → Worst sc c p s t x r
-worst-is sc c p s t x r y e = record { told = e ∙ ap maxAbs (y .holds); size = y .size; below = ext-getD nan (take (p .ahead) t) (take (p .ahead) s) lengths at }
-  where
-    lengths : length (take (p .ahead) t) ≡ length (take (p .ahead) s)
-    lengths = simp length-take (omega (arith, y .size))
-
-    at : (i : ℕ) → i < length (take (p .ahead) t) → getD (take (p .ahead) t) i nan ≡ getD (take (p .ahead) s) i nan
-    at i l =
-        let h : i < p .ahead = omega (arith, simp length-take at l) in
-        getD-take (p .ahead) t i nan h ∙ y .below i h ∙ sym (getD-take (p .ahead) s i nan h)
+worst-is sc c p s t x r y e = record { told = e ∙ ap maxAbs (y .holds); size = y .size; below = take-same s t (p .ahead) (y .size) (y .below) }
 
 -- ---- the retry
 
-pub arranged-same : (c : SceneStruct) (p : PlacesStruct) (m n : ℕ) → m ≡ n → Arranged c p n → Arranged c p m
-arranged-same c p m n e a = subst (λ (k : ℕ). Arranged c p k) (sym e) a
-
 -- what stands below `ahead` is as it was
 worst-part : (sc : Scene) (c : SceneStruct) (p : PlacesStruct) (s t : List Float) (x : ℕ) (r : Float) (o k : ℕ) → o + k ≤ p .ahead → Worst sc c p s t x r → part t o k ≡ part s o k
-worst-part sc c p s t x r o k h y =
-    kept-part-below s t (p .ahead) (length s) o k h
-    (record { size = y .size; below = y .below; above = drop-whole t (length s) (y .size) ∙ sym (drop-whole s (length s) refl) })
+worst-part sc c p s t x r o k h y = taken-part s t (p .ahead) o k (y .size) (y .below) h
 
 abbrev pub retryOf : Scene → SceneStruct → PlacesStruct → List Float → Outcome
 retryOf sc c p s = run (rowsOf sc) (weightsIn c p s) ASSEMBLY MAX-ITER (listOf slightTurn (c .n))

@@ -25,7 +25,6 @@ use relations::model::Place;
 use rounds::places::Places;
 use rounds::places::arrange;
 use rounds::rounds::run;
-use rounds::trial::copy_back;
 use rounds::trial::largest;
 use scene::scene::Scene;
 use scene::scene::inverse_weights;
@@ -91,7 +90,7 @@ fn retry(sheet: &[u8], scene: Scene, s: &mut [f64], p: Places) -> bool
     requires { ⌜ scene .n ≤ 384 ⌝ }
     ensures { λ ok. ⌜ ((first : lm.Outcome) → first .converged ≡ false → first .x ≡ rounds_spec.unknownsIn scene p (now (s .entry)) → spec.Ended scene p (now (s .entry)) (now (s .exit)) (definitions.better (sceneOf (now (sheet .entry)) scene) first (lm.run (definitions.rowsOf (sceneOf (now (sheet .entry)) scene)) (rounds_spec.weightsIn scene p (now (s .entry))) tolerances.ASSEMBLY definitions.MAX-ITER (lm.listOf definitions.slightTurn (scene .n)))) ok) ⌝ }
 {
-    copy_back(s, p.x, p.first, scene.n);
+    copy(s, p.x, p.first, scene.n);
     put_turn(s, p.x, scene.n);
     let again = run(sheet, scene, s, p);
     if again.converged {

@@ -1,13 +1,13 @@
 -- What one trial leaves in the lent scratch, step by step. By least_squares' laws on parts of the scratch. Assumes nothing.
 use mathlib.Core.Path.{_≡_, refl, sym, ap, _∙_}
 use mathlib.Core.Bool.{Bool, true, false, _&&_}
-use mathlib.Core.List.{List, [], _∷_, _++_}
+use mathlib.Core.List.{List, _++_}
 use mathlib.Core.Option.{Option, none, some}
-use Prim.Native.Nat.{ℕ, suc, _+_, _-_, _*_, _≤_, _<_}
+use Prim.Native.Nat.{ℕ, _+_, _-_, _*_, _≤_}
 use native.Mathlib.Omega.{arith}
-use lib.Ieee.{Float, nan, binary64, mul, lt, ofBits}
-use lib.ListN.{length, getD, set, take, drop, length-drop}
-use lib.Seq.{take-length, take-suc, take-suc-set, getD-drop, drop-set-add, drop-drop}
+use lib.Ieee.{Float, binary64, mul, lt, ofBits}
+use lib.ListN.{length, take, drop, length-drop}
+use lib.Seq.{take-length, drop-drop}
 use Rattle.numbers.specs.Double.{isFinite}
 use Rattle.vectors.specs.Tol.{ASSEMBLY}
 use Rattle.least_squares.specs.Memory.{part, Kept}
@@ -17,7 +17,7 @@ use Rattle.least_squares.specs.Dense.{given, Dense}
 use Rattle.scene.specs.Scene.{RowsAt}
 use Rattle.scene.specs.Solve.{Scene, rowsOf}
 use Rattle.scene.specs.declared.scene.Scene.{Scene as SceneStruct}
-use Rattle.least_squares.proofs.MemoryLaws.{take-same, part-below, taken-part, kept-trans, kept-wider, kept-part-below, kept-part-above, kept-at-above, kept-tail, tail-part}
+use Rattle.least_squares.proofs.MemoryLaws.{take-same, part-below, taken-part, kept-trans, kept-wider, kept-part-below, kept-part-above, kept-tail, tail-part}
 use Rattle.rounds.specs.declared.places.Places.{Places as PlacesStruct}
 use Rattle.rounds.specs.declared.trial.Tried.{Tried as TriedStruct}
 use Rattle.rounds.specs.Places.{Arranged}
@@ -37,19 +37,6 @@ leaves-refl c p s = record { keeps = keeps-refl c p s; slopes = refl; matrix = r
 pub leaves-trans : (c : SceneStruct) (p : PlacesStruct) (s t u : List Float) → Leaves c p s t → Leaves c p t u → Leaves c p s u
 leaves-trans c p s t u a b =
     record { keeps = keeps-trans c p s t u (a .keeps) (b .keeps); slopes = b .slopes ∙ a .slopes; matrix = b .matrix ∙ a .matrix }
-
--- ---- copying back
-
--- one more double of a copy to a place before
-pub copy-back-step : (o s : List Float) (a b k i : ℕ) → b + k ≤ a → a + k ≤ length o → i < k → Kept o s b (b + k) → part s b i ≡ part o a i
-    → part (set s (b + i) (getD s (a + i) nan)) b (suc i) ≡ part o a (suc i)
-copy-back-step o s a b k i h l m r e =
-    let v = getD s (a + i) nan in
-    let z = r .size in
-    let h1 : i < length (drop b s) = simp length-drop (omega arith) in
-    let h2 : i < length (drop a o) = simp length-drop (omega arith) in
-    let q : v ≡ getD (drop a o) i nan = kept-at-above o s b (b + k) (a + i) nan (omega arith) r ∙ sym (getD-drop a o i nan) in
-    ap (take (suc i)) (drop-set-add b s i v) ∙ take-suc-set (drop b s) i v h1 ∙ (λ j. e j ++ (q j ∷ [])) ∙ sym (take-suc (drop a o) i nan h2)
 
 -- ---- the step taken
 

@@ -6,7 +6,6 @@ ghost use lib.ListN.{length};
 ghost use Rattle.numbers.specs.MaxAbs.{maxAbs};
 ghost use Rattle.least_squares.specs.Lm as lm;
 ghost use Rattle.least_squares.specs.Memory.{part};
-ghost use Rattle.least_squares.specs.LmPosts.{Copied};
 ghost use Rattle.scene.specs.Scene.{Laid, sceneOf};
 ghost use Rattle.rounds.specs.Places.{Arranged};
 ghost use Rattle.rounds.specs.Rounds as spec;
@@ -26,17 +25,6 @@ pub struct Tried {
     pub better: bool,
     pub cost: f64,
     pub mu: f64,
-}
-
-// The k doubles from a on copied to b on, which stands before them.
-pub fn copy_back(s: &mut [f64], a: usize, b: usize, k: usize)
-    requires { ⌜ b + k ≤ a ⌝ }
-    requires { ⌜ a + k ≤ length (now s) ⌝ }
-    ensures { λ _. ⌜ Copied (now (s .entry)) (now (s .exit)) a b k ⌝ }
-{
-    for i in 0..k {
-        s[b + i] = s[a + i];
-    }
 }
 
 // The sum of the squares of the k doubles from o on.
@@ -72,7 +60,7 @@ fn answer(s: &mut [f64], scene: Scene, p: Places, mu: f64) -> bool
     let most = diag_max(s, p.matrix, rows);
     copy(s, p.matrix, p.damped, rows * rows);
     damp(s, p.damped, rows, mu * most);
-    copy_back(s, p.rows, p.right, rows);
+    copy(s, p.rows, p.right, rows);
     let at = p.damped;
     solve_dense(&mut s[at..], rows)
 }
@@ -95,8 +83,8 @@ fn take_step(s: &mut [f64], scene: Scene, p: Places)
     requires { ⌜ Arranged scene p (length (now s)) ⌝ }
     ensures { λ _. ⌜ spec.Taken scene p (now (s .entry)) (now (s .exit)) ⌝ }
 {
-    copy_back(s, p.next, p.x, scene.n);
-    copy_back(s, p.ahead, p.rows, scene.rows);
+    copy(s, p.next, p.x, scene.n);
+    copy(s, p.ahead, p.rows, scene.rows);
 }
 
 // One trial, from the sum of squares and the damping so far.

@@ -1,14 +1,11 @@
--- `least_squares::lm::copy` meets its contract. Assumes nothing.
+-- `least_squares::lm::copy`: after i turns the first i doubles are copied and all else is kept, so the double read next is still the one at entry. Assumes nothing.
 use Rattle.least_squares.proofs.LmLaws.{copy-step}
-use Rattle.least_squares.proofs.MemoryLaws.{part-set-above, part-set-below, kept-refl, kept-set, part-length, kept-at-below}
+use Rattle.least_squares.proofs.MemoryLaws.{kept-refl, kept-set}
 use Rattle.least_squares.specs.Memory.{part, Kept}
-use lib.Ieee.{nan}
-use lib.Seq.{take-suc, take-suc-set, getD-drop, drop-set-add}
-use lib.ListN.{length, getD, take, drop, set, length-drop}
 use native.Mathlib.Omega.{arith}
 use native.Mathlib.Numerals.{add-one}
-use mathlib.Core.Path.{_≡_, refl, sym, ap, _∙_}
-use Prim.Native.Nat.{ℕ, suc, _+_, _*_, _≤_, _<_, _-_}
+use mathlib.Core.Path.{_≡_, refl}
+use Prim.Native.Nat.{_+_, _≤_, _-_}
 use Rattle.least_squares.proofs.lm.copy.Statement.{statement}
 use Rattle.least_squares.proofs.lm.copy.Tie as tie
 
@@ -54,7 +51,11 @@ loop-again c =
     let a = st .before .args .a in
     let b = st .before .args .b in
     let k = st .before .args .k in
-    (omega arith, kept-set o s b (b + k) (b + i) _ (omega arith) (omega arith) (st .loop .inv .1), rw add-one (copy-step o s a b k i (omega arith) (omega arith) (omega arith) (st .loop .inv .1) (st .loop .inv .2)))
+    let kept = st .loop .inv .1 in (
+      omega arith,
+      kept-set o s b (b + k) (b + i) _ (omega arith) (omega arith) kept,
+      rw add-one (copy-step o s a b k i (omega arith) (omega arith) (omega arith) kept (st .loop .inv .2)),
+    )
 
 same-length : tie.Need-same-length Inv-loop μ-loop
 same-length c = c .before .loop .inv .1 .size

@@ -1,82 +1,102 @@
--- `placement::solve::retry` meets its contract. Assumes nothing.
+-- `placement::solve::retry`: the first run's unknowns are set aside and a second run starts from a slight turn. It is kept where it converged, or where its largest row is
+-- the smaller; else the unknowns set aside come back. What the second run leaves is one fact (`again`), and each of the three ends follows from it. Assumes nothing.
 use mathlib.Core.Path.{_∙_}
 use native.Mathlib.Omega.{arith}
 use borrow.Author.Needs.{needs}
 use Rattle.scene.specs.Scene.{sceneOf}
-use Rattle.placement.proofs.SolveLaws.{arranged-same, Again, again-is, retry-converged, retry-smaller, retry-larger}
+use Rattle.rounds.proofs.RoundLaws.{arranged-same}
+use Rattle.placement.proofs.SolveLaws.{Again, again-is, retry-converged, retry-smaller, retry-larger}
 use Rattle.placement.proofs.solve.retry.Statement.{statement}
 use Rattle.placement.proofs.solve.retry.Tie as tie
 
-copy-back-requires : tie.Need-copy-back-requires
-copy-back-requires c κs = search needs
+copy-requires : tie.Need-copy-requires
+copy-requires c κs = search needs
 
 put-turn-requires : tie.Need-put-turn-requires
 put-turn-requires c κs = search needs
 
 run-requires : tie.Need-run-requires
 run-requires c κs =
-    let f = c .before .before .before .before .before .before .before .before .before .before .before .pre in
-    (f .0, (arranged-same _ _ _ _ (c .before .before .before .put-turn .ensures .kept .size ∙ c .before .before .before .before .before .before .before .copy-back .ensures .kept .size) (f .1 .0), f .1 .1))
+    let turned = c .before .before .before in
+    let aside = turned .before .before .before .before in
+    let o = aside .before .before .before .before in
+    (o .pre .0, (arranged-same (turned .put-turn .ensures .kept .size ∙ aside .copy .ensures .kept .size) (o .pre .1 .0), o .pre .1 .1))
 
--- the second run
-again : (c : tie.After-run) → let g = c .before .before .before .before .before .before .before .before .before .before .before .before .args in Again (sceneOf (g .sheet .now) (g .scene)) (g .scene) (g .p) (g .s .now) (c .run .last .1 .1 .0) (c .run .result .converged)
+-- what the second run leaves, from the scratch at entry
+again : (c : tie.After-run)
+    → let g = c .before .before .before .before .before .before .before .before .before .before .before .before .args in
+    Again (sceneOf (g .sheet .now) (g .scene)) (g .scene) (g .p) (g .s .now) (c .run .last .1 .1 .0) (c .run .result .converged)
 again c =
-    let g = c .before .before .before .before .before .before .before .before .before .before .before .before .args in
-    again-is (sceneOf (g .sheet .now) (g .scene)) (g .scene) (g .p) (g .s .now) _ _ _ _ (c .before .before .before .before .before .before .before .before .before .before .before .before .pre .1 .0) (c .before .before .before .before .before .before .before .before .copy-back .ensures) (c .before .before .before .before .put-turn .ensures) (c .run .ensures)
+    let turned = c .before .before .before .before in
+    let aside = turned .before .before .before .before in
+    let o = aside .before .before .before .before in
+    let g = o .args in
+    again-is (sceneOf (g .sheet .now) (g .scene)) (g .scene) (g .p) (g .s .now) _ _ _ _ (o .pre .1 .0) (aside .copy .ensures) (turned .put-turn .ensures) (c .run .ensures)
 
 same-length : tie.Need-same-length
 same-length c = search needs
 
 returns : tie.Need-returns
-returns c =
-    λ first h e. retry-converged _ _ _ _ _ _ first (again (c .before .before .before)) (c .if1 .taken)
+returns c = λ first h e. retry-converged _ _ _ _ _ _ first (again (c .before .before .before)) (c .if1 .taken)
 
 worst-requires : tie.Need-worst-requires
 worst-requires c κs =
-    let f = c .before .before .before .before .before .before .before .before .before .before .before .before .before .before .before .before .pre in
-    let a = f .1 .0 in
-    (f .0, (arranged-same _ _ _ _ (again (c .before .before .before .before) .size) a, omega arith))
+    let ran = c .before .before .before .before in
+    let o = ran .before .before .before .before .before .before .before .before .before .before .before .before in
+    let a = o .pre .1 .0 in
+    (o .pre .0, (arranged-same (again ran .size) a, omega arith))
 
 worst-requires-2 : tie.Need-worst-requires-2
 worst-requires-2 c κs =
-    let f = c .before .before .before .before .before .before .before .before .before .before .before .before .before .before .before .before .before .before .before .before .pre in
-    let a = f .1 .0 in (
-      f .0,
-      (
-        arranged-same _ _ _ _ (c .before .before .before .worst .ensures .size ∙ again (c .before .before .before .before .before .before .before .before) .size) a,
-        omega arith,
-      ),
-    )
+    let now = c .before .before .before in
+    let ran = now .before .before .before .before .before in
+    let o = ran .before .before .before .before .before .before .before .before .before .before .before .before in
+    let a = o .pre .1 .0 in
+    (o .pre .0, (arranged-same (now .worst .ensures .size ∙ again ran .size) a, omega arith))
 
 same-length-2 : tie.Need-same-length-2
 same-length-2 c = search needs
 
 returns-2 : tie.Need-returns-2
 returns-2 c =
+    let before = c .before .before .before in
+    let now = before .before .before .before .before in
+    let failed = now .before .before in
+    let ran = failed .before .before .before in
+    let o = ran .before .before .before .before .before .before .before .before .before .before .before .before in
     λ first h e.
-    retry-smaller _ _ _ _ _ _ first (again (c .before .before .before .before .before .before .before .before .before .before .before .before)) _ _ _ _ (c .before .before .before .before .before .before .before .before .before .before .before .before .before .before .before .before .before .before .before .before .before .before .before .before .pre .1 .0) (c .before .before .before .before .before .before .before .before .before .if1 .left) e (c .before .before .before .before .before .before .before .worst .ensures) (c .before .before .before .worst2 .ensures) (c .if2 .taken)
+    retry-smaller _ _ _ _ _ _ first (again ran) _ _ _ _ (o .pre .1 .0) (failed .if1 .left) e (now .worst .ensures) (before .worst2 .ensures) (c .if2 .taken)
 
-copy-requires : tie.Need-copy-requires
-copy-requires c κs =
-    let a = c .before .before .before .before .before .before .before .before .before .before .before .before .before .before .before .before .before .before .before .before .before .before .before .before .before .pre .1 .0 in
-    let z = c .before .before .before .before .worst2 .ensures .size in
-    let y = c .before .before .before .before .before .before .before .before .worst .ensures .size in
-    let x = again (c .before .before .before .before .before .before .before .before .before .before .before .before .before) .size in
-    (a .first, omega (arith, a .x, a .slopes, a .matrix, a .weights, a .damped, a .right, a .rows, a .next, a .ahead, a .behind, a .poses, z, y, x))
+copy-requires-2 : tie.Need-copy-requires-2
+copy-requires-2 c κs =
+    let before = c .before .before .before .before in
+    let now = before .before .before .before .before in
+    let ran = now .before .before .before .before .before in
+    let o = ran .before .before .before .before .before .before .before .before .before .before .before .before in
+    let a = arranged-same (before .worst2 .ensures .size ∙ now .worst .ensures .size ∙ again ran .size) (o .pre .1 .0) in
+    (omega (arith, a .first), omega (arith, a .first, a .x, a .slopes, a .matrix, a .weights, a .damped, a .right, a .rows, a .next, a .ahead, a .behind, a .poses))
 
 same-length-3 : tie.Need-same-length-3
 same-length-3 c = search needs
 
 returns-3 : tie.Need-returns-3
 returns-3 c =
+    let back = c .before .before in
+    let larger = back .before .before in
+    let before = larger .before .before .before in
+    let now = before .before .before .before .before in
+    let failed = now .before .before in
+    let ran = failed .before .before .before in
+    let o = ran .before .before .before .before .before .before .before .before .before .before .before .before in
     λ first h e.
-    retry-larger _ _ _ _ _ _ first (again (c .before .before .before .before .before .before .before .before .before .before .before .before .before .before .before .before)) _ _ _ _ (c .before .before .before .before .before .before .before .before .before .before .before .before .before .before .before .before .before .before .before .before .before .before .before .before .before .before .before .before .pre .1 .0) (c .before .before .before .before .before .before .before .before .before .before .before .before .before .if1 .left) e (c .before .before .before .before .before .before .before .before .before .before .before .worst .ensures) (c .before .before .before .before .before .before .before .worst2 .ensures) _ h (c .before .before .before .before .if2 .left) (c .before .before .copy .ensures)
+    retry-larger _ _ _ _ _ _ first (again ran) _ _ _ _ (o .pre .1 .0) (failed .if1 .left) e (now .worst .ensures) (before .worst2 .ensures) _ h (larger .if2 .left)
+    (back .copy2 .ensures)
 
 pub retry-spec : {M : Type 1} → statement M
 retry-spec =
     tie.close
     (tie.spec
-    copy-back-requires
+    copy-requires
     put-turn-requires
     run-requires
     same-length
@@ -85,6 +105,6 @@ retry-spec =
     worst-requires-2
     same-length-2
     returns-2
-    copy-requires
+    copy-requires-2
     same-length-3
     returns-3)

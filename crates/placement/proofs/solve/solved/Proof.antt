@@ -3,7 +3,8 @@ use mathlib.Core.Path.{_∙_}
 use borrow.Author.Needs.{needs}
 use Rattle.relations.specs.Model.{bodyNumber}
 use Rattle.scene.specs.Scene.{sceneOf}
-use Rattle.placement.proofs.SolveLaws.{arranged-same, Begun, begun-is, first-converged, first-still, twice}
+use Rattle.rounds.proofs.RoundLaws.{arranged-same}
+use Rattle.placement.proofs.SolveLaws.{Begun, begun-is, first-converged, first-still, twice}
 use Rattle.placement.proofs.solve.solved.Statement.{statement}
 use Rattle.placement.proofs.solve.solved.Tie as tie
 
@@ -16,7 +17,7 @@ put-start-requires c κs = search needs
 run-requires : tie.Need-run-requires
 run-requires c κs =
     let f = c .before .before .before .before .before .before .before .before .before .before .before .pre in
-    (f .0, (arranged-same _ _ _ _ (c .before .before .before .put-start .ensures .kept .size ∙ c .before .before .before .before .before .before .before .inverse-weights .ensures .kept .size) (f .1 .0), f .1 .1))
+    (f .0, (arranged-same (c .before .before .before .put-start .ensures .kept .size ∙ c .before .before .before .before .before .before .before .inverse-weights .ensures .kept .size) (f .1 .0), f .1 .1))
 
 -- the first run
 begun : (c : tie.After-run)
@@ -45,7 +46,7 @@ retry-requires c κs =
     let f = c .before .before .before .before .before .before .before .before .before .before .before .before .before .before .before .before .before .pre in (
       f .0,
       (
-        arranged-same _ _ _ _ (begun (c .before .before .before .before .before) .size) (f .1 .0),
+        arranged-same (begun (c .before .before .before .before .before) .size) (f .1 .0),
         f .1 .1,
       ),
     )

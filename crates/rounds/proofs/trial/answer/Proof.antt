@@ -1,4 +1,6 @@
--- `rounds::trial::answer` meets its contract: the part from the damped matrix on is lent to `solve_dense`. Assumes nothing.
+-- `rounds::trial::answer`: the matrix is copied and damped, the rows are copied behind it, and the scratch from the damped matrix on is lent to `solve_dense`. What that
+-- leaves, put behind what stood before, is the answer's part of the whole scratch (`answer-is`). Assumes nothing.
+use mathlib.Core.Path.{_∙_}
 use Prim.Native.Nat.{_≤_}
 use native.Mathlib.Omega.{arith}
 use borrow.Author.Needs.{needs}
@@ -20,8 +22,8 @@ copy-requires c κs = search needs
 damp-requires : tie.Need-damp-requires
 damp-requires c κs = search needs
 
-copy-back-requires : tie.Need-copy-back-requires
-copy-back-requires c κs = search needs
+copy-requires-2 : tie.Need-copy-requires-2
+copy-requires-2 c κs = search needs
 
 mul-solve-dense : tie.Need-mul-solve-dense
 mul-solve-dense c = search needs
@@ -43,18 +45,22 @@ same-length c = search needs
 
 returns : tie.Need-returns
 returns c =
-    let g = c .before .before .before .before .before .before .before .before .before .before .before .before .before .before .before .before .before .before .before in
-    let w = c .before .before .before .before .before .before .copy-back .last .0 in
-    let x = c .before .before .before .before .before .before .before .before .before .before .before .before .before .before .copy .ensures in
-    let y = c .before .before .before .before .before .before .before .before .before .before .damp .ensures in
-    let z = c .before .before .before .before .before .before .copy-back .ensures in
-    let sx = x .kept .size in
-    let sy = y .kept .size in
-    let sz = z .kept .size in
-    let h : g .args .p .damped ≤ length w = omega arith in
-    rw (put-tail (g .args .p .damped) w (c .before .before .solve-dense .last .0) h)
-    (answer-is (g .args .scene) (g .args .p) _ _ _ w (c .before .before .solve-dense .last .0) (g .args .mu) _ _ _ (g .pre .0) h
-    (c .before .before .before .before .before .before .before .before .before .before .before .before .before .before .before .before .diag-max .ensures) x y z (rest-lent (g .args .p .damped) w _ _ _ (c .before .before .solve-dense .ensures)))
+    let solving = c .before .before in
+    let right = solving .before .before .before .before in
+    let damping = right .before .before .before .before in
+    let copying = damping .before .before .before .before in
+    let most = copying .before .before in
+    let o = most .before .before .before in
+    let g = o .args in
+    let w = right .copy2 .last .0 in
+    let q = solving .solve-dense .last .0 in
+    let x = copying .copy .ensures in
+    let y = damping .damp .ensures in
+    let z = right .copy2 .ensures in
+    let sizes = z .kept .size ∙ y .kept .size ∙ x .kept .size in
+    let h : g .p .damped ≤ length w = omega arith in
+    rw (put-tail (g .p .damped) w q h)
+    (answer-is (g .scene) (g .p) _ _ _ w q (g .mu) _ _ _ (o .pre .0) h (most .diag-max .ensures) x y z (rest-lent (g .p .damped) w _ _ _ (solving .solve-dense .ensures)))
 
 pub answer-spec : {M : Type 1} → statement M
 answer-spec =
@@ -64,7 +70,7 @@ answer-spec =
     mul-copy
     copy-requires
     damp-requires
-    copy-back-requires
+    copy-requires-2
     mul-solve-dense
     sub-solve-dense
     part-solve-dense-start

@@ -4,11 +4,11 @@ use Rattle.rounds.proofs.TrialLaws.{step-taken}
 use Rattle.rounds.proofs.trial.take_step.Statement.{statement}
 use Rattle.rounds.proofs.trial.take_step.Tie as tie
 
-copy-back-requires : tie.Need-copy-back-requires
-copy-back-requires c κs = search needs
+copy-requires : tie.Need-copy-requires
+copy-requires c κs = search needs
 
-copy-back-requires-2 : tie.Need-copy-back-requires-2
-copy-back-requires-2 c κs = search needs
+copy-requires-2 : tie.Need-copy-requires-2
+copy-requires-2 c κs = search needs
 
 same-length : tie.Need-same-length
 same-length c = search needs
@@ -16,7 +16,7 @@ same-length c = search needs
 returns : tie.Need-returns
 returns c =
     let g = c .before .before .before .before .before .before .before .before .before in
-    step-taken (g .args .scene) (g .args .p) _ _ _ _ (g .pre) (c .before .before .before .before .before .before .copy-back .ensures) (c .before .before .copy-back2 .ensures)
+    step-taken (g .args .scene) (g .args .p) _ _ _ _ (g .pre) (c .before .before .before .before .before .before .copy .ensures) (c .before .before .copy2 .ensures)
 
 pub take-step-spec : {M : Type 1} → statement M
-take-step-spec = tie.close (tie.spec copy-back-requires copy-back-requires-2 same-length returns)
+take-step-spec = tie.close (tie.spec copy-requires copy-requires-2 same-length returns)
