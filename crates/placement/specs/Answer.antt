@@ -11,14 +11,14 @@ use Rattle.numbers.specs.MaxAbs.{maxAbs}
 use Rattle.vectors.specs.Space.{Frame}
 use Rattle.least_squares.specs.Lm.{Outcome}
 use Rattle.least_squares.specs.Memory.{part}
-use Rattle.scene.specs.Scene.{vecDoubles, posesDoubles}
+use Rattle.scene.specs.Scene.{fourDoubles, posesDoubles}
 use Rattle.scene.specs.Solve.{Scene, rowsOf, solved, solve}
 use Rattle.scene.specs.declared.scene.Scene.{Scene as SceneStruct}
 use Rattle.rounds.specs.declared.places.Places.{Places as PlacesStruct}
 
 -- a frame: origin, x, y, z
 abbrev pub frameDoubles : Frame → List Float
-frameDoubles f = vecDoubles (f .origin) ++ (vecDoubles (f .x) ++ (vecDoubles (f .y) ++ vecDoubles (f .z)))
+frameDoubles f = fourDoubles (f .origin) (f .x) (f .y) (f .z)
 
 unfoldable pub framesDoubles : List Frame → List Float
 framesDoubles [] = []

@@ -30,7 +30,7 @@ use scene::scene::Scene;
 use scene::scene::inverse_weights;
 use scene::scene::pose_at;
 use scene::scene::poses_at;
-use scene::scene::put_vec;
+use scene::scene::put_four;
 use scene::scene::rel_rows;
 use scene::scene::rows_at;
 use vectors::math::frame_of;
@@ -144,10 +144,7 @@ fn put_frame(d: &mut [f64], o: usize, f: Frame)
     let x = f.x;
     let y = f.y;
     let z = f.z;
-    put_vec(d, o, origin);
-    put_vec(d, o + 3, x);
-    put_vec(d, o + 6, y);
-    put_vec(d, o + 9, z);
+    put_four(d, o, origin, x, y, z);
 }
 
 // Each body's frame at the poses from p on, squared anew; the body's own where none can be built.

@@ -65,9 +65,12 @@ inverseAt sheet c drag i = map inverseWeight (weightsOf drag i (bodyAt sheet (c 
 abbrev pub vecDoubles : Vec Float → List Float
 vecDoubles v = v .x ∷ v .y ∷ v .z ∷ []
 
+abbrev pub fourDoubles : Vec Float → Vec Float → Vec Float → Vec Float → List Float
+fourDoubles a b c d = vecDoubles a ++ (vecDoubles b ++ (vecDoubles c ++ vecDoubles d))
+
 -- the turning, row by row, and the position
 abbrev pub poseDoubles : Pose Float → List Float
-poseDoubles q = vecDoubles (q .r .r0) ++ (vecDoubles (q .r .r1) ++ (vecDoubles (q .r .r2) ++ vecDoubles (q .t)))
+poseDoubles q = fourDoubles (q .r .r0) (q .r .r1) (q .r .r2) (q .t)
 
 unfoldable pub posesDoubles : List (Pose Float) → List Float
 posesDoubles [] = []

@@ -58,6 +58,17 @@ pub fn put_vec(s: &mut [f64], o: usize, v: Vec3)
     s[o + 2] = v.z;
 }
 
+// Four vectors, one after the other.
+pub fn put_four(s: &mut [f64], o: usize, a: Vec3, b: Vec3, c: Vec3, d: Vec3)
+    requires { ⌜ o + 12 ≤ length (now s) ⌝ }
+    ensures { λ _. ⌜ spec.Put (now (s .entry)) (now (s .exit)) o 12 (spec.fourDoubles (vec a) (vec b) (vec c) (vec d)) ⌝ }
+{
+    put_vec(s, o, a);
+    put_vec(s, o + 3, b);
+    put_vec(s, o + 6, c);
+    put_vec(s, o + 9, d);
+}
+
 // The pose that twelve doubles are.
 pub fn pose_at(s: &[f64], o: usize) -> Pose
     requires { ⌜ o + 12 ≤ length (now s) ⌝ }
@@ -82,10 +93,7 @@ pub fn put_pose(s: &mut [f64], o: usize, q: Pose)
     let r0 = r.r0;
     let r1 = r.r1;
     let r2 = r.r2;
-    put_vec(s, o, r0);
-    put_vec(s, o + 3, r1);
-    put_vec(s, o + 6, r2);
-    put_vec(s, o + 9, t);
+    put_four(s, o, r0, r1, r2, t);
 }
 
 // Turned by w about the body's centre, then moved by t.
