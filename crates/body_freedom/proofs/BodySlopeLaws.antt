@@ -1,4 +1,5 @@
--- One body's rows and slopes: the poses with one of them put anew, the rows relation by relation, the slopes column by column, the six by six. Assumes nothing.
+-- One body's rows and slopes: the poses of the frames, the rows relation by relation, the slopes column by column, the six by six. One pose put anew is by the laws of slopes.
+-- Assumes nothing.
 use mathlib.Core.Path.{_≡_, refl, sym, ap, subst, _∙_}
 use mathlib.Core.Logic.{inl, inr}
 use mathlib.Core.Bool.{Bool, true, false, _||_, cond}
@@ -6,28 +7,26 @@ use mathlib.Core.List.{List, [], _∷_, _++_, map}
 use Prim.Native.Nat.{ℕ, zero, suc, _+_, _-_, _*_, _≤_, _<_}
 use native.Mathlib.Omega.{arith}
 use native.Mathlib.Numerals.{add-one}
-use native.Mathlib.Decide.{decLt, ℕ-discrete}
 use native.Mathlib.Nat.{not-suc-le-zero, le-of-suc-le-suc, eq-or-lt-of-le, mul-le-mul, mul-le-mul-right, mul-comm}
-use lib.ListN.{length, getD, set, drop, length-append, length-set, length-map}
-use lib.Seq.{getD-set-same, getD-set-other, set-set, ext-getD}
+use lib.ListN.{length, getD, set, drop, length-append, length-map}
+use lib.Seq.{set-set}
 use lib.Ieee.{Float, nan, binary64, add, sub, mul, div}
 use Rattle.numbers.specs.Double.{zero64}
 use Rattle.spans.specs.Flat.{flatTo, flat}
 use Rattle.relations.specs.Geometry.{Pose}
 use Rattle.relations.specs.Model.{Body, Rel, poseOfFrame}
-use Rattle.relations.specs.Rows.{ground}
 use Rattle.judging.proofs.CountLaws.{residual-length}
 use Rattle.records.specs.Record.{bodyAt, relAt}
 use Rattle.scene.specs.Scene.{sceneIn}
 use Rattle.least_squares.specs.Lm.{listOf, tableOf, stepOf, slopeOf, ahead, behind, slope, jacobian}
 use Rattle.least_squares.specs.Memory.{part}
 use Rattle.scene.specs.Solve.{Scene, names, named, moves, layoutFrom, unknownsIn, three, movedPose, rowsAt, allRows, halfSize}
-use Rattle.scene.specs.Scene.{sceneOf, Laid, relRows, poseDoubles, posesDoubles, poseIn, posesIn, Put, PutNext, Column}
+use Rattle.scene.specs.Scene.{sceneOf, Laid, relRows, poseDoubles, posesDoubles, posesIn, Put, PutNext, Column}
 use Rattle.body_freedom.specs.Dof.{relsOf, withBody, bodyRows, zeros, columnsTimes, squareOf}
 use Rattle.scene.specs.declared.scene.Scene.{Scene as SceneStruct}
-use Rattle.least_squares.proofs.MemoryLaws.{part-length, part-at, kept-part-below, kept-at-below, kept-at-above}
+use Rattle.least_squares.proofs.MemoryLaws.{part-length, part-at, kept-part-below, kept-at-below}
 use Rattle.least_squares.proofs.TableLaws.{length-listOf, getD-listOf, sum-same, in-rows, length-tableOf, getD-tableOf, table-ext}
-use Rattle.scene.proofs.SceneLaws.{Growing, growing-step, growing-room, growing-end, listOf-next, drop-whole, length-bodies, bodies-next, next-layout, poses-kept, poses-there, pose-of}
+use Rattle.scene.proofs.SceneLaws.{Growing, growing-step, growing-room, growing-end, listOf-next, drop-whole, length-bodies, bodies-next, next-layout, poses-kept, poses-there, poses-put}
 use Rattle.body_freedom.specs.BodySlopes.{bodyParts, BodyApart, starts, shifted, namedRows, rowsOn, movedRows, RowsMoved, BodyColumn, BodySlopes, BodySquare}
 use Rattle.body_freedom.specs.declared.body_slopes.BodyParts.{BodyParts as BodyPartsStruct}
 
@@ -73,64 +72,6 @@ pub starts-there : (sheet : List ℕ) (c : SceneStruct) (s t : List Float) (p : 
 starts-there sheet c s t p y =
     let l : length (starts (sceneOf sheet c)) ≡ c .m = length-map (sceneOf sheet c .bodies) (λ b. poseOfFrame (b .frame)) ∙ length-bodies sheet c in
     poses-there t p (12 * c .m) (starts (sceneOf sheet c)) (y .holds) (ap (λ (w : ℕ). 12 * w) l) (c .m) l
-
--- ---- one pose put anew
-
--- twelve doubles that are the same are the same pose
-pose-same : (s t : List Float) (w : ℕ) → ((q : ℕ) → w ≤ q → q < w + 12 → getD t q nan ≡ getD s q nan) → poseIn t w ≡ poseIn s w
-pose-same s t w h =
-    let a0 = h w (omega arith) (omega arith) in
-    let a1 = h (w + 1) (omega arith) (omega arith) in
-    let a2 = h (w + 2) (omega arith) (omega arith) in
-    let b0 = h (w + 3) (omega arith) (omega arith) in
-    let b1 = h (w + 3 + 1) (omega arith) (omega arith) in
-    let b2 = h (w + 3 + 2) (omega arith) (omega arith) in
-    let c0 = h (w + 6) (omega arith) (omega arith) in
-    let c1 = h (w + 6 + 1) (omega arith) (omega arith) in
-    let c2 = h (w + 6 + 2) (omega arith) (omega arith) in
-    let d0 = h (w + 9) (omega arith) (omega arith) in
-    let d1 = h (w + 9 + 1) (omega arith) (omega arith) in
-    let d2 = h (w + 9 + 2) (omega arith) (omega arith) in
-    λ v.
-    record {
-      r = record { r0 = record { x = a0 v; y = a1 v; z = a2 v }; r1 = record { x = b0 v; y = b1 v; z = b2 v }; r2 = record { x = c0 v; y = c1 v; z = c2 v } };
-      t = record { x = d0 v; y = d1 v; z = d2 v };
-    }
-
--- the pose that was put
-pose-put : (s t : List Float) (w : ℕ) (q : Pose Float) → Put s t w 12 (poseDoubles q) → poseIn t w ≡ q
-unfolding posesDoubles
-pose-put s t w q y =
-    let e : posesIn t w 1 ≡ q ∷ [] = poses-there t w 12 (q ∷ []) (y .holds) refl 1 refl in
-    let z : w ≡ w + 12 * 0 = omega arith in
-    ap (poseIn t) z ∙ pose-of t w 1 0 (omega arith) ∙ ap (λ (l : List (Pose Float)). getD l 0 ground) e
-
-module _ (s t : List Float) (p m i : ℕ) (q : Pose Float) (h : i < m) (y : Put s t (p + 12 * i) 12 (poseDoubles q)) where
-  pose-other : (k : ℕ) → (k ≡ i → ⊥) → poseIn t (p + 12 * k) ≡ poseIn s (p + 12 * k)
-  pose-other k n = pose-same s t (p + 12 * k) (λ w a b. go w a b (decLt k i))
-    where
-      go : (w : ℕ) → p + 12 * k ≤ w → w < p + 12 * k + 12 → Dec (k < i) → getD t w nan ≡ getD s w nan
-      go w a b (yes l) = kept-at-below s t (p + 12 * i) (p + 12 * i + 12) w nan (omega arith) (y .kept)
-      go w a b (no l) =
-          let g : i < k = omega arith in
-          kept-at-above s t (p + 12 * i) (p + 12 * i + 12) w nan (omega arith) (y .kept)
-
-  pub poses-put : posesIn t p m ≡ set (posesIn s p m) i q
-  poses-put = ext-getD ground (posesIn t p m) (set (posesIn s p m) i q) lengths at
-    where
-      lengths : length (posesIn t p m) ≡ length (set (posesIn s p m) i q)
-      lengths = length-listOf _ m ∙ sym (length-set (posesIn s p m) i q ∙ length-listOf _ m)
-
-      at : (k : ℕ) → k < length (posesIn t p m) → getD (posesIn t p m) k ground ≡ getD (set (posesIn s p m) i q) k ground
-      at k l =
-          let b : k < m = rw (length-listOf (λ i. poseIn t (p + 12 * i)) m) at l in
-          elim (ℕ-discrete k i) [
-            | yes e ↦
-                sym (pose-of t p m k b) ∙ ap (λ (w : ℕ). poseIn t (p + 12 * w)) e ∙ pose-put s t (p + 12 * i) q y
-                ∙ sym (getD-set-same (posesIn s p m) i q ground (rw (length-listOf (λ i. poseIn s (p + 12 * i)) m) h))
-                ∙ ap (λ (w : ℕ). getD (set (posesIn s p m) i q) w ground) (sym e)
-            | no n ↦ sym (pose-of t p m k b) ∙ pose-other k n ∙ pose-of s p m k b ∙ sym (getD-set-other (posesIn s p m) i k q ground n)
-          ]
 
 -- ---- what single functions need
 

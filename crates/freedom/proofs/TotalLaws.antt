@@ -2,7 +2,7 @@
 -- names. Assumes nothing.
 use mathlib.Core.Path.{_≡_, refl, sym, ap, subst, _∙_}
 use mathlib.Core.Bool.{Bool, true, false, not, _&&_, _||_, cond}
-use mathlib.Core.Logic.{_⊎_, inl, inr, ⊎-elim}
+use mathlib.Core.Logic.{inl, inr}
 use mathlib.Core.List.{List, [], _∷_, _++_, map}
 use mathlib.Core.Option.{Option, none, some}
 use Prim.Native.Nat.{ℕ, zero, suc, _+_, _-_, _*_, _≤_, _<_, min}
@@ -11,8 +11,8 @@ use native.Mathlib.Numerals.{add-one}
 use native.Mathlib.Nat.{not-suc-le-zero, le-of-suc-le-suc, eq-or-lt-of-le, zero-add, add-zero, mul-le-mul}
 use borrow.Author.Tests.{eq-eqb, ne-eqb}
 use lib.Dec.{eqb}
-use lib.ListN.{length, getD, set, take, drop, length-set, length-take, length-drop}
-use lib.Seq.{getD-set-same, getD-set-other, ext-getD, set-set, take-length, take-suc-set, drop-set-add, drop-cons}
+use lib.ListN.{length, getD, set, take, drop, length-set, length-drop}
+use lib.Seq.{getD-set-same, getD-set-other, set-set, take-length, take-suc-set, drop-set-add, drop-cons}
 use lib.Ieee.{Float, nan, binary64, add, sub, mul, div, neg, lt, le}
 use Rattle.numbers.specs.Double.{zero64, fmax}
 use Rattle.numbers.specs.Ops.{doubles}
@@ -29,10 +29,11 @@ use Rattle.scene.specs.Scene.{firstUnknown, sceneOf, Laid, Put, RowsAt, Column}
 use Rattle.scene.specs.Solve.{Scene, moves, layoutFrom, layout, unknowns, rowsOf, halfSize}
 use Rattle.body_freedom.specs.Dof.{columnsTimes, squareOf, largestValue, scaleThree, scaledFrom, scaledRows, stiffCount, rankRel, unnamedFrom, totalFreedom, zeros, top}
 use Rattle.scene.specs.declared.scene.Scene.{Scene as SceneStruct}
-use Rattle.least_squares.proofs.MemoryLaws.{part-length, part-at, part-set, kept-refl, kept-set, kept-trans, kept-wider, kept-at-below, kept-at-above, kept-part-below, put-tail, tail-part}
+use Rattle.least_squares.proofs.MemoryLaws.{part-length, part-at, part-set, kept-refl, kept-set, kept-trans, kept-wider, kept-at-below, kept-at-above, kept-part-below, put-tail, tail-part, part-same}
 use Rattle.least_squares.proofs.TableLaws.{in-rows, table-ext, sum-same, getD-listOf}
 use Rattle.scene.proofs.SceneLaws.{next-layout, length-bodies, bodies-next, layout-next, drop-whole}
 use Rattle.least_squares.proofs.LmLaws.{row-step, row-fits, entry-at}
+use Rattle.slopes.proofs.SlopeLaws.{lt-or-ge}
 use borrow.Rule.Slice.PartMut.{putMid}
 use Rattle.freedom.specs.Values.{Values}
 use Rattle.freedom.specs.Freed.{need}
@@ -141,19 +142,6 @@ scaled-rows-is sc s s1 s2 t x n z r rows p h a b d =
     }
 
 -- ---- one column of the slopes
-
-lt-or-ge : (a b : ℕ) → (a < b) ⊎ (b ≤ a)
-lt-or-ge a zero = inr (omega arith)
-lt-or-ge zero (suc b) = inl (omega arith)
-lt-or-ge (suc a) (suc b) = ⊎-elim (λ h. inl (omega arith)) (λ h. inr (omega arith)) (lt-or-ge a b)
-
-part-same : (s t : List Float) (o k : ℕ) → length t ≡ length s → ((i : ℕ) → i < k → getD t (o + i) nan ≡ getD s (o + i) nan) → part t o k ≡ part s o k
-part-same s t o k e h = ext-getD nan (part t o k) (part s o k) (simp (length-take, length-drop) (omega arith)) at
-  where
-    at : (i : ℕ) → i < length (part t o k) → getD (part t o k) i nan ≡ getD (part s o k) i nan
-    at i l =
-        let m : i < k = omega (arith, simp length-take at l) in
-        part-at t o k i nan m ∙ h i m ∙ sym (part-at s o k i nan m)
 
 module _ (f : List Float → List Float) (s s2 s4 t : List Float) (j n rows x y z a b c : ℕ) (v h : Float)
     (c-in : c < n) (j-y : j + rows * n ≤ y) (y-z : y + n ≤ z) (z-a : z + n ≤ a) (a-b : a + rows ≤ b) (b-s : b + rows ≤ length s)

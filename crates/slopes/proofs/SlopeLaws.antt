@@ -18,7 +18,7 @@ use Rattle.least_squares.proofs.TableLaws.{in-rows, table-ext}
 
 -- ---- places of a matrix
 
-lt-or-ge : (a b : ℕ) → (a < b) ⊎ (b ≤ a)
+pub lt-or-ge : (a b : ℕ) → (a < b) ⊎ (b ≤ a)
 lt-or-ge a zero = inr (omega arith)
 lt-or-ge zero (suc b) = inl (omega arith)
 lt-or-ge (suc a) (suc b) = ⊎-elim (λ h. inl (omega arith)) (λ h. inr (omega arith)) (lt-or-ge a b)
