@@ -1,21 +1,26 @@
--- Laws of the n by n matrices of specs/Eigen.antt: where a row lies; a list that grows at its end, one that is written from the front on, and the identity so written. Assumes nothing.
-use mathlib.Core.Path.{_≡_, refl, _∙_}
+-- Laws of the n by n matrices of specs/Eigen.antt: where a row lies; a list that grows at its end, one that is written from the front on, and the identity so written; stores behind
+-- the end, which change nothing, so that columns of fewer rows are turned and swapped as the definitions say for n. Assumes nothing.
+use mathlib.Core.Path.{_≡_, refl, sym, ap, _∙_}
 use mathlib.Core.Bool.{cond}
-use mathlib.Core.Logic.{⊎-elim}
+use mathlib.Core.Logic.{⊎-elim, inl, inr}
 use mathlib.Core.List.{List, [], _∷_, _++_, append-assoc}
 use Prim.Native.Nat.{ℕ, zero, suc, _+_, _*_, _<_, _≤_}
 use native.Mathlib.Nat.{mul-le-mul-right, suc-mul, zero-mul, eq-or-lt-of-le, le-of-suc-le-suc, not-suc-le-zero}
 use native.Mathlib.Omega.{arith}
-use lib.ListN.{length, take, drop, set, getD, length-append, List·getD-append}
-use lib.Seq.{drop-cons, set-at, take-at, drop-append-add, drop-drop, length-take-le, getD-at}
+use lib.ListN.{length, take, drop, set, getD, length-append, length-set, List·getD-append}
+use lib.Seq.{drop-cons, set-at, set-out, take-at, drop-append-add, drop-drop, length-take-le, getD-at}
 use lib.Dec.{eqb}
 use lib.Ieee.{Float, nan}
 use Rattle.numbers.specs.Double.{zero64, one64}
-use Rattle.eigen.specs.Eigen.{unitRow, unitTo}
+use Rattle.eigen.specs.Eigen.{unitRow, unitTo, turnColumns}
+use Rattle.eigen.specs.EigenMemory.{Rows, swapColumns}
 
--- row i of n lies within the matrix
+-- row i of k rows of n entries lies within them; row i of n lies within the matrix
+pub row-of : (n : ℕ) {i k : ℕ} → i < k → i * n + n ≤ k * n
+row-of n {i} h = omega (arith, suc-mul i n, mul-le-mul-right n h)
+
 pub row-within : {i n : ℕ} → i < n → i * n + n ≤ n * n
-row-within {i} {n} h = omega (arith, suc-mul i n, mul-le-mul-right n h)
+row-within {i} {n} h = row-of n h
 
 -- a list that grows at its end: g k comes k-th
 pub record Grows {A : Type 0} (f : ℕ → List A) (g : ℕ → A) : Type 0 where
@@ -67,3 +72,31 @@ unfolding unitTo
 unit-next n i d =
     rw (take-at (unitTo n i) (drop (i * n) d) (i * n) (length-unitTo n i), ← length-unitTo n i, drop-append-add (unitTo n i) (drop (length (unitTo n i)) d) n, drop-drop n (length (unitTo n i)) d, length-unitTo n i, suc-mul i n)
     (simp append-assoc)
+
+-- ---- two stores in each row of n entries
+
+module _ (f : ℕ → List Float) (n p q : ℕ) (x y : ℕ → Float) (more : (i : ℕ) → f (suc i) ≡ set (set (f i) (i * n + p) (x i)) (i * n + q) (y i)) where
+  pub length-stored : (i : ℕ) → length (f i) ≡ length (f zero)
+  length-stored zero = refl
+  length-stored (suc i) = ap length (more i) ∙ simp length-set (length-stored i)
+
+  -- a list of k rows: the stores in the rows from k on change nothing
+  pub stored-beyond : (k i : ℕ) → length (f zero) ≤ k * n → k ≤ i → f i ≡ f k
+  stored-beyond k zero h l = let e : 0 ≡ k = omega arith in ap f e
+  stored-beyond k (suc i) h l =
+      elim (eq-or-lt-of-le l) [
+        | inl e ↦ ap f (sym e)
+        | inr g ↦
+            let w = mul-le-mul-right n (le-of-suc-le-suc g) in
+            let z = length-stored i in
+            more i ∙ set-out (set (f i) (i * n + p) (x i)) (i * n + q) (y i) (simp length-set (omega arith)) ∙ set-out (f i) (i * n + p) (x i) (omega arith)
+            ∙ stored-beyond k i h (le-of-suc-le-suc g)
+      ]
+
+pub turn-rows-of : {n rows : ℕ} {v w : List Float} (c s : Float) (p q : ℕ) → Rows n rows v → w ≡ turnColumns n c s p q v rows → w ≡ turnColumns n c s p q v n
+unfolding turnColumns
+turn-rows-of {n} {rows} {v} c s p q h e = e ∙ sym (stored-beyond (turnColumns n c s p q v) n p q _ _ (λ i. refl) rows n (omega arith) (h .within))
+
+pub swap-rows-of : {n rows : ℕ} {v w : List Float} (i j : ℕ) → Rows n rows v → w ≡ swapColumns n i j v rows → w ≡ swapColumns n i j v n
+unfolding swapColumns
+swap-rows-of {n} {rows} {v} i j h e = e ∙ sym (stored-beyond (swapColumns n i j v) n i j _ _ (λ k. refl) rows n (omega arith) (h .within))

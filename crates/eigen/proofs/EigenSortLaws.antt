@@ -10,7 +10,7 @@ use native.Mathlib.Numerals.{add-one, sub-one}
 use native.Mathlib.Decide.{ℕ-discrete}
 use native.Mathlib.Omega.{arith}
 use lib.ListN.{length, take, set, getD, length-set, drop-of-length-le}
-use lib.Seq.{getD-set-same, getD-set-other, ext-getD, lt-length-set, take-suc, take-length, take-all}
+use lib.Seq.{getD-set-same, getD-set-other, ext-getD, lt-length-set, set-comm, take-suc, take-length, take-all}
 use lib.Ieee.{Float, nan}
 use Rattle.numbers.specs.Double.{before}
 use Rattle.eigen.specs.Sort.{sort}
@@ -18,7 +18,7 @@ use Rattle.eigen.specs.Insertion.{sink}
 use Rattle.eigen.specs.Eigen.{Eigen, Turned, turned, unitTo, sweeps, column, pairs, lower, symEigen}
 use Rattle.eigen.specs.EigenMemory.{SymEigen, Held, held, columns, diagonal, swapPair, swapColumns, swapped, forward, sorted}
 use Rattle.eigen.proofs.Sorting.{sink-on, sink-stop, sortedTo, sorted-start, sorted-step, sorted-end}
-use Rattle.eigen.proofs.EigenLaws.{row-within, Grows, length-grows, getD-grows}
+use Rattle.eigen.proofs.EigenLaws.{row-within, Grows, length-grows, getD-grows, length-stored}
 
 -- ---- two entries change places
 
@@ -43,8 +43,7 @@ rows-apart n i k c d hc hd h e = row-apart n k i d c hd hc h (sym e)
 module _ (n a b : ℕ) (ha : a < n) (hb : b < n) (l : List Float) (size : length l ≡ n * n) where
   pub length-swapColumns : (k : ℕ) → length (swapColumns n a b l k) ≡ length l
   unfolding swapColumns
-  length-swapColumns zero = refl
-  length-swapColumns (suc k) = simp length-set (length-swapColumns k)
+  length-swapColumns = length-stored (swapColumns n a b l) n a b _ _ (λ i. refl)
 
   -- the rows from k on are as they were
   untouched : (c : ℕ) → c < n → (k i : ℕ) → k ≤ i → getD (swapColumns n a b l k) (i * n + c) nan ≡ getD l (i * n + c) nan
@@ -249,6 +248,35 @@ module _ (n : ℕ) (w : Held) (size : Sized n w) where
       sorted-to (pairAt n w 0) n (le-refl n)
       ∙ sorted-end lower (pairAt n w 0) (heldPairs n w n) n
       ∙ rw (take-all n (heldPairs n w n) e, drop-of-length-le (heldPairs n w n) e, append-nil)
+
+-- ---- the values alone: whatever the columns are, the values are sorted as a list
+
+forward-values : (n j : ℕ) (w : Held) → forward n j w .vals ≡ sink before nan (w .vals) j
+unfolding forward sink
+forward-values n zero w = refl
+forward-values n (suc j) w = go (before x y) (forward-values n j (swapped n j (suc j) w))
+  where
+    x : Float
+    x = getD (w .vals) (suc j) nan
+
+    y : Float
+    y = getD (w .vals) j nan
+
+    go : (b : Bool) → forward n j (swapped n j (suc j) w) .vals ≡ sink before nan (swapPair (w .vals) j (suc j)) j
+        → (elim b as (λ _. Held) [ true ↦ forward n j (swapped n j (suc j) w) | false ↦ w ]) .vals
+        ≡ elim b as (λ _. List Float) [ true ↦ sink before nan (set (set (w .vals) (suc j) y) j x) j | false ↦ w .vals ]
+    go true e = e ∙ ap (λ (l : List Float). sink before nan l j) (set-comm (w .vals) j (suc j) x y (λ e. absurd (omega arith)))
+    go false e = refl
+
+values-to : (n : ℕ) (w : Held) (i : ℕ) → i ≤ length (w .vals) → sorted n w i .vals ≡ sortedTo before nan (w .vals) i
+unfolding sorted
+values-to n w zero h = sorted-start before nan (w .vals)
+values-to n w (suc i) h = forward-values n i (sorted n w i) ∙ rw (values-to n w i (omega arith), ← add-one i) (sorted-step before nan (w .vals) i h)
+
+pub sorted-values : (n : ℕ) (w : Held) → length (w .vals) ≡ n → sorted n w n .vals ≡ sort before (w .vals)
+sorted-values n w e =
+    let h : length (w .vals) ≤ n = omega arith in
+    values-to n w n (omega arith) ∙ sorted-end before nan (w .vals) n ∙ rw (take-all n (w .vals) h, drop-of-length-le (w .vals) h, append-nil)
 
 -- the diagonal and the columns, paired, are the pairs of the definition
 pub held-diagonal : (n : ℕ) (w : Turned) (k : ℕ) → k ≤ n → heldPairs n (record { vals = diagonal (w .m) n n; v = w .v }) k ≡ pairs n w k

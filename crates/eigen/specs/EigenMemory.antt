@@ -1,13 +1,18 @@
 -- How `sym_eigen` of math.rs keeps its pairs and sorts them on lent memory: the values in one list, each one's vector in a column of an n by n matrix.
 -- Document 01, "The train of files", item 3. Definitions only.
-use Prim.Native.Nat.{ℕ, zero, suc, _+_, _*_}
+use Prim.Native.Nat.{ℕ, zero, suc, _+_, _*_, _≤_}
 use mathlib.Core.Path.{_≡_}
 use mathlib.Core.Bool.{true, false}
 use mathlib.Core.List.{List, [], _∷_, _++_, map}
-use lib.ListN.{getD, set}
+use lib.ListN.{length, getD, set}
 use lib.Ieee.{Float, nan}
 use Rattle.numbers.specs.Double.{before}
 use Rattle.eigen.specs.Eigen.{Eigen, turned, sweeps, unitTo, column, symEigen}
+
+-- v has the first rows of an n by n matrix, so many: all n of the vectors, or none where the values alone are asked for
+pub record Rows (n rows : ℕ) (v : List Float) : Type 0 where
+  pub size : length v ≡ rows * n
+  pub within : rows ≤ n
 
 -- the first i columns
 unfoldable pub columns : ℕ → List Float → ℕ → List (List Float)

@@ -80,7 +80,7 @@ fn diag(m: &[f64], n: usize) -> f64
 }
 
 // Whether what is off the diagonal is too small to count.
-pub fn settled(m: &[f64], n: usize) -> bool
+fn settled(m: &[f64], n: usize) -> bool
     requires { ⌜ length (now m) ≡ n * n ⌝ }
     ensures { λ r. ⌜ r ≡ spec.settled (now (m .entry)) n ⌝ }
 {
@@ -120,21 +120,21 @@ fn turn_pair(l: &mut [f64], i: usize, j: usize, c: f64, s: f64)
     l[j] = s * x + c * y;
 }
 
-// Turns columns p and q.
-pub fn turn_columns(l: &mut [f64], n: usize, p: usize, q: usize, c: f64, s: f64)
-    requires { ⌜ length (now l) ≡ n * n ⌝ }
+// Turns columns p and q of so many rows of n entries.
+fn turn_columns(l: &mut [f64], n: usize, rows: usize, p: usize, q: usize, c: f64, s: f64)
+    requires { ⌜ length (now l) ≡ rows * n ⌝ }
     requires { ⌜ p < n ⌝ }
     requires { ⌜ q < n ⌝ }
-    ensures { λ _. ⌜ now (l .exit) ≡ spec.turnColumns n c s p q (now (l .entry)) n ⌝ }
+    ensures { λ _. ⌜ now (l .exit) ≡ spec.turnColumns n c s p q (now (l .entry)) rows ⌝ }
 {
-    for k in 0..n {
+    for k in 0..rows {
         let o = k * n;
         turn_pair(l, o + p, o + q, c, s);
     }
 }
 
 // Turns rows p and q.
-pub fn turn_rows(l: &mut [f64], n: usize, p: usize, q: usize, c: f64, s: f64)
+fn turn_rows(l: &mut [f64], n: usize, p: usize, q: usize, c: f64, s: f64)
     requires { ⌜ length (now l) ≡ n * n ⌝ }
     requires { ⌜ p < n ⌝ }
     requires { ⌜ q < n ⌝ }
@@ -148,9 +148,9 @@ pub fn turn_rows(l: &mut [f64], n: usize, p: usize, q: usize, c: f64, s: f64)
 }
 
 // Turns m and v so that the entry pq of m vanishes, unless it is next to nothing already.
-fn rotate(m: &mut [f64], v: &mut [f64], n: usize, p: usize, q: usize)
+fn rotate(m: &mut [f64], v: &mut [f64], n: usize, rows: usize, p: usize, q: usize)
     requires { ⌜ length (now m) ≡ n * n ⌝ }
-    requires { ⌜ length (now v) ≡ n * n ⌝ }
+    requires { ⌜ memory.Rows n rows (now v) ⌝ }
     requires { ⌜ p < n ⌝ }
     requires { ⌜ q < n ⌝ }
     ensures { λ _. ⌜ spec.turned (now (m .exit)) (now (v .exit)) ≡ spec.rotate n p q (spec.turned (now (m .entry)) (now (v .entry))) ⌝ }
@@ -164,45 +164,45 @@ fn rotate(m: &mut [f64], v: &mut [f64], n: usize, p: usize, q: usize)
     let t = tangent(m[a + p], m[b + q], apq);
     let c = cosine(t);
     let s = t * c;
-    turn_columns(m, n, p, q, c, s);
+    turn_columns(m, n, n, p, q, c, s);
     turn_rows(m, n, p, q, c, s);
-    turn_columns(v, n, p, q, c, s);
+    turn_columns(v, n, rows, p, q, c, s);
 }
 
 // Clears row p right of the diagonal, entry by entry.
-fn sweep_row(m: &mut [f64], v: &mut [f64], n: usize, p: usize)
+fn sweep_row(m: &mut [f64], v: &mut [f64], n: usize, rows: usize, p: usize)
     requires { ⌜ length (now m) ≡ n * n ⌝ }
-    requires { ⌜ length (now v) ≡ n * n ⌝ }
+    requires { ⌜ memory.Rows n rows (now v) ⌝ }
     requires { ⌜ p < n ⌝ }
     ensures { λ _. ⌜ spec.turned (now (m .exit)) (now (v .exit)) ≡ spec.sweepRow n p (spec.turned (now (m .entry)) (now (v .entry))) (n - (p + 1)) ⌝ }
 {
     for q in p + 1..n {
-        rotate(m, v, n, p, q);
+        rotate(m, v, n, rows, p, q);
     }
 }
 
 // One sweep over the entries right of the diagonal.
-fn sweep(m: &mut [f64], v: &mut [f64], n: usize)
+fn sweep(m: &mut [f64], v: &mut [f64], n: usize, rows: usize)
     requires { ⌜ length (now m) ≡ n * n ⌝ }
-    requires { ⌜ length (now v) ≡ n * n ⌝ }
+    requires { ⌜ memory.Rows n rows (now v) ⌝ }
     ensures { λ _. ⌜ spec.turned (now (m .exit)) (now (v .exit)) ≡ spec.sweepTo n (spec.turned (now (m .entry)) (now (v .entry))) n ⌝ }
 {
     for p in 0..n {
-        sweep_row(m, v, n, p);
+        sweep_row(m, v, n, rows, p);
     }
 }
 
-// At most a hundred sweeps.
-fn sweeps(m: &mut [f64], v: &mut [f64], n: usize)
+// At most a hundred sweeps. v has so many rows of the vectors: all n, or none where the values alone are asked for.
+pub fn sweeps(m: &mut [f64], v: &mut [f64], n: usize, rows: usize)
     requires { ⌜ length (now m) ≡ n * n ⌝ }
-    requires { ⌜ length (now v) ≡ n * n ⌝ }
+    requires { ⌜ memory.Rows n rows (now v) ⌝ }
     ensures { λ _. ⌜ spec.turned (now (m .exit)) (now (v .exit)) ≡ spec.sweeps n 100 (spec.turned (now (m .entry)) (now (v .entry))) ⌝ }
 {
     for i in 0usize..100 {
         if settled(m, n) {
             return;
         }
-        sweep(m, v, n);
+        sweep(m, v, n, rows);
     }
 }
 
@@ -229,23 +229,23 @@ fn swap(l: &mut [f64], i: usize, j: usize)
     l[j] = x;
 }
 
-// Columns i and j change places.
-fn swap_columns(l: &mut [f64], n: usize, i: usize, j: usize)
-    requires { ⌜ length (now l) ≡ n * n ⌝ }
+// Columns i and j of so many rows of n entries change places.
+fn swap_columns(l: &mut [f64], n: usize, rows: usize, i: usize, j: usize)
+    requires { ⌜ length (now l) ≡ rows * n ⌝ }
     requires { ⌜ i < n ⌝ }
     requires { ⌜ j < n ⌝ }
-    ensures { λ _. ⌜ now (l .exit) ≡ memory.swapColumns n i j (now (l .entry)) n ⌝ }
+    ensures { λ _. ⌜ now (l .exit) ≡ memory.swapColumns n i j (now (l .entry)) rows ⌝ }
 {
-    for k in 0..n {
+    for k in 0..rows {
         let o = k * n;
         swap(l, o + i, o + j);
     }
 }
 
 // Moves the i-th value with its column forward past those that it stands before.
-fn forward(vals: &mut [f64], v: &mut [f64], n: usize, i: usize)
+fn forward(vals: &mut [f64], v: &mut [f64], n: usize, rows: usize, i: usize)
     requires { ⌜ length (now vals) ≡ n ⌝ }
-    requires { ⌜ length (now v) ≡ n * n ⌝ }
+    requires { ⌜ memory.Rows n rows (now v) ⌝ }
     requires { ⌜ i < n ⌝ }
     ensures { λ _. ⌜ memory.held (now (vals .exit)) (now (v .exit)) ≡ memory.forward n i (memory.held (now (vals .entry)) (now (v .entry))) ⌝ }
 {
@@ -254,7 +254,7 @@ fn forward(vals: &mut [f64], v: &mut [f64], n: usize, i: usize)
         let k = j - 1;
         if numbers::before(vals[j], vals[k]) {
             swap(vals, k, j);
-            swap_columns(v, n, k, j);
+            swap_columns(v, n, rows, k, j);
             j = k;
         } else {
             return;
@@ -262,14 +262,14 @@ fn forward(vals: &mut [f64], v: &mut [f64], n: usize, i: usize)
     }
 }
 
-// Sorts the values upward, each with its column.
-fn sort(vals: &mut [f64], v: &mut [f64], n: usize)
+// Sorts the values upward, each with its column, of which v has so many rows: all n, or none where the values alone are asked for.
+pub fn sort(vals: &mut [f64], v: &mut [f64], n: usize, rows: usize)
     requires { ⌜ length (now vals) ≡ n ⌝ }
-    requires { ⌜ length (now v) ≡ n * n ⌝ }
+    requires { ⌜ memory.Rows n rows (now v) ⌝ }
     ensures { λ _. ⌜ memory.held (now (vals .exit)) (now (v .exit)) ≡ memory.sorted n (memory.held (now (vals .entry)) (now (v .entry))) n ⌝ }
 {
     for i in 0..n {
-        forward(vals, v, n, i);
+        forward(vals, v, n, rows, i);
     }
 }
 
@@ -281,7 +281,7 @@ pub fn sym_eigen(m: &mut [f64], v: &mut [f64], vals: &mut [f64], n: usize)
     ensures { λ _. ⌜ memory.SymEigen n (now (m .entry)) (now (m .exit)) (now (v .exit)) (now (vals .exit)) ⌝ }
 {
     unit(v, n);
-    sweeps(m, v, n);
+    sweeps(m, v, n, n);
     diagonal(m, vals, n);
-    sort(vals, v, n);
+    sort(vals, v, n, n);
 }

@@ -1,19 +1,20 @@
--- `eigen::forward` meets its contract. The loop's invariant: moving the pair at j on leads to the same end. Assumes nothing.
+-- `eigen::forward`: the pair changes places with the one before it, as long as it stands before that. The loop's invariant: moving the pair at j on leads to the same end. Assumes nothing.
 use mathlib.Core.Path.{_≡_, refl, sym, _∙_}
 use Prim.Native.Nat.{_≤_}
 use native.Mathlib.Omega.{arith}
 use lib.ListN.{length}
 use borrow.Author.Needs.{needs}
 use Rattle.eigen.specs.EigenMemory.{held, forward}
+use Rattle.eigen.proofs.EigenLaws.{swap-rows-of}
 use Rattle.eigen.proofs.EigenSortLaws.{forward-stop, forward-on}
 use Rattle.eigen.proofs.eigen.forward.Statement.{statement}
 use Rattle.eigen.proofs.eigen.forward.Tie as tie
 
 abbrev Inv-loop : tie.InvT-loop
-Inv-loop vals₀ v₀ n i j₀ vals v j = (j ≤ i) × (length vals ≡ length vals₀) × (length v ≡ length v₀) × (forward n j (held vals v) ≡ forward n i (held vals₀ v₀))
+Inv-loop vals₀ v₀ n rows i j₀ vals v j = (j ≤ i) × (length vals ≡ length vals₀) × (length v ≡ length v₀) × (forward n j (held vals v) ≡ forward n i (held vals₀ v₀))
 
 abbrev μ-loop : tie.MeasureT-loop
-μ-loop vals₀ v₀ n i j₀ vals v j = j
+μ-loop vals₀ v₀ n rows i j₀ vals v j = j
 
 loop-holds : tie.Need-loop-holds Inv-loop μ-loop
 loop-holds c = (omega arith, refl, refl, refl)
@@ -47,14 +48,19 @@ loop-less c = omega arith
 
 loop-again : tie.Need-loop-again Inv-loop μ-loop
 loop-again c =
-    let l = c .before .before .before .before .before .before .before .before .before .before .before .before .before .loop in
-    let s = c .before .before .before .before .before .before .swap in
-    let t = c .before .before .swap-columns in
-    let n = c .before .before .before .before .before .before .before .before .before .before .before .before .before .before .before .before .args .n in
-    let turn = c .before .before .before .before .before .before .before .before .before .before .before .before .loop-test .taken in
-    let test = sym (c .before .before .before .before .before .before .before .before .before .before2 .ensures) ∙ c .before .before .before .before .before .before .before .before .if1 .taken in
-    let h = forward-on n (l .j) (held (l .vals) (l .v)) turn test in
-    (omega arith, s .kept .0 ∙ l .inv .1, t .kept .0 ∙ l .inv .2, rw (t .ensures, s .ensures) (sym h ∙ l .inv .3))
+    let columns = c .before .before in
+    let values = columns .before .before .before .before in
+    let test = values .before .before in
+    let more = test .before .before .before .before in
+    let head = more .before in
+    let l = head .loop in
+    let o = head .before .before .before in
+    let rows = o .pre .1 .0 in
+    let s = values .swap in
+    let t = columns .swap-columns in
+    let moved = swap-rows-of _ _ (record { size = l .inv .2 ∙ rows .size; within = rows .within }) (t .ensures) in
+    let h = forward-on (o .args .n) (l .j) (held (l .vals) (l .v)) (more .loop-test .taken) (sym (test .before .before2 .ensures) ∙ test .if1 .taken) in
+    (omega arith, s .kept .0 ∙ l .inv .1, t .kept .0 ∙ l .inv .2, rw (moved, s .ensures) (sym h ∙ l .inv .3))
 
 same-length : tie.Need-same-length Inv-loop μ-loop
 same-length c = omega arith
@@ -64,10 +70,11 @@ same-length-2 c = omega arith
 
 returns : tie.Need-returns Inv-loop μ-loop
 returns c =
-    let l = c .before .before .before .before .before .loop in
-    let n = c .before .before .before .before .before .before .before .before .args .n in
-    let test = sym (c .before .before2 .ensures) ∙ c .if1 .left in
-    sym (forward-stop n (l .j) (held (l .vals) (l .v)) (c .before .before .before .before .loop-test .taken) test) ∙ l .inv .3
+    let more = c .before .before .before .before in
+    let head = more .before in
+    let l = head .loop in
+    let a = head .before .before .before .args in
+    sym (forward-stop (a .n) (l .j) (held (l .vals) (l .v)) (more .loop-test .taken) (sym (c .before .before2 .ensures) ∙ c .if1 .left)) ∙ l .inv .3
 
 same-length-3 : tie.Need-same-length-3 Inv-loop μ-loop
 same-length-3 c = omega arith

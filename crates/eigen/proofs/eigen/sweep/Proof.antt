@@ -1,7 +1,8 @@
--- `eigen::sweep` meets its contract. The loop's invariant: the first p rows are cleared. Assumes nothing.
+-- `eigen::sweep`: one row after another. The loop's invariant: the first p rows are cleared. Assumes nothing.
 use mathlib.Core.Path.{_≡_, refl, _∙_}
 use Prim.Native.Nat.{_-_, _≤_}
 use native.Mathlib.Omega.{arith}
+use borrow.Author.Needs.{needs}
 use lib.ListN.{length}
 use Rattle.eigen.specs.Eigen.{turned, sweepTo}
 use Rattle.eigen.proofs.SweepLaws.{sweep-step}
@@ -9,17 +10,17 @@ use Rattle.eigen.proofs.eigen.sweep.Statement.{statement}
 use Rattle.eigen.proofs.eigen.sweep.Tie as tie
 
 abbrev Inv-loop : tie.InvT-loop
-Inv-loop m₀ v₀ n p₀ m v p = (p ≤ n) × (length m ≡ length m₀) × (length v ≡ length v₀) × (turned m v ≡ sweepTo n (turned m₀ v₀) p)
+Inv-loop m₀ v₀ n rows p₀ m v p = (p ≤ n) × (length m ≡ length m₀) × (length v ≡ length v₀) × (turned m v ≡ sweepTo n (turned m₀ v₀) p)
 
 abbrev μ-loop : tie.MeasureT-loop
-μ-loop m₀ v₀ n p₀ m v p = n - p
+μ-loop m₀ v₀ n rows p₀ m v p = n - p
 
 loop-holds : tie.Need-loop-holds Inv-loop μ-loop
 unfolding sweepTo
 loop-holds c = (omega arith, refl, refl, refl)
 
 sweep-row-requires : tie.Need-sweep-row-requires Inv-loop μ-loop
-sweep-row-requires c κs = omega arith
+sweep-row-requires c κs = search needs
 
 add-p : tie.Need-add-p Inv-loop μ-loop
 add-p c = omega arith
@@ -29,9 +30,11 @@ loop-less c = omega arith
 
 loop-again : tie.Need-loop-again Inv-loop μ-loop
 loop-again c =
-    let l = c .before .before .before .before .before .before .before .before .loop in
-    let a = c .before .before .before .before .before .before .before .before .before .before .before .args in
-    let r = c .before .before .before .before .sweep-row in
+    let turn = c .before .before .before .before in
+    let head = turn .before .before .before .before in
+    let l = head .loop in
+    let a = head .before .before .before .args in
+    let r = turn .sweep-row in
     let next = sweep-step (a .n) (l .p) (turned (a .m .now) (a .v .now)) (turned (l .m) (l .v)) (turned (r .last .0) (r .last .1 .0)) in
     (omega arith, r .kept .0 ∙ l .inv .1, r .kept .1 .0 ∙ l .inv .2, next (l .inv .3) (r .ensures))
 

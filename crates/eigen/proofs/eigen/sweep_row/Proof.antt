@@ -1,7 +1,8 @@
--- `eigen::sweep_row` meets its contract. The loop's invariant: the columns up to q are cleared. Assumes nothing.
+-- `eigen::sweep_row`: one rotation after another, from the diagonal on. The loop's invariant: the columns up to q are cleared. Assumes nothing.
 use mathlib.Core.Path.{_≡_, refl, _∙_}
 use Prim.Native.Nat.{_+_, _-_, _≤_}
 use native.Mathlib.Omega.{arith}
+use borrow.Author.Needs.{needs}
 use lib.ListN.{length}
 use Rattle.eigen.specs.Eigen.{turned, sweepRow}
 use Rattle.eigen.proofs.SweepLaws.{row-start, row-step}
@@ -9,10 +10,10 @@ use Rattle.eigen.proofs.eigen.sweep_row.Statement.{statement}
 use Rattle.eigen.proofs.eigen.sweep_row.Tie as tie
 
 abbrev Inv-loop : tie.InvT-loop
-Inv-loop m₀ v₀ n p q₀ m v q = (p + 1 ≤ q) × (q ≤ n) × (length m ≡ length m₀) × (length v ≡ length v₀) × (turned m v ≡ sweepRow n p (turned m₀ v₀) (q - (p + 1)))
+Inv-loop m₀ v₀ n rows p q₀ m v q = (p + 1 ≤ q) × (q ≤ n) × (length m ≡ length m₀) × (length v ≡ length v₀) × (turned m v ≡ sweepRow n p (turned m₀ v₀) (q - (p + 1)))
 
 abbrev μ-loop : tie.MeasureT-loop
-μ-loop m₀ v₀ n p q₀ m v q = n - q
+μ-loop m₀ v₀ n rows p q₀ m v q = n - q
 
 add-q : tie.Need-add-q Inv-loop μ-loop
 add-q c = omega arith
@@ -23,7 +24,7 @@ loop-holds c =
     (omega arith, omega arith, refl, refl, row-start (a .n) (a .p) (turned (a .m .now) (a .v .now)))
 
 rotate-requires : tie.Need-rotate-requires Inv-loop μ-loop
-rotate-requires c κs = omega arith
+rotate-requires c κs = search needs
 
 add-q-2 : tie.Need-add-q-2 Inv-loop μ-loop
 add-q-2 c = omega arith
@@ -33,9 +34,11 @@ loop-less c = omega arith
 
 loop-again : tie.Need-loop-again Inv-loop μ-loop
 loop-again c =
-    let l = c .before .before .before .before .before .before .before .before .loop in
-    let a = c .before .before .before .before .before .before .before .before .before .before .before .args in
-    let r = c .before .before .before .before .rotate in
+    let turn = c .before .before .before .before in
+    let head = turn .before .before .before .before in
+    let l = head .loop in
+    let a = head .before .before .before .args in
+    let r = turn .rotate in
     let next = row-step (a .n) (a .p) (l .q) (turned (a .m .now) (a .v .now)) (turned (l .m) (l .v)) (turned (r .last .0) (r .last .1 .0)) in
     (omega arith, omega arith, r .kept .0 ∙ l .inv .2, r .kept .1 .0 ∙ l .inv .3, next (l .inv .0) (l .inv .4) (r .ensures))
 

@@ -1,4 +1,4 @@
--- `eigen::sym_eigen` meets its contract: its four steps are those of the definition. Assumes nothing.
+-- `eigen::sym_eigen`: its four steps, from the identity over the sweeps and the diagonal to the sort, are those of the definition. Assumes nothing.
 use borrow.Author.Needs.{needs}
 use mathlib.Core.Path.{_∙_}
 use Rattle.eigen.proofs.EigenSortLaws.{sym-eigen-is}
@@ -28,10 +28,13 @@ same-length-3 c = search needs
 
 returns : tie.Need-returns
 returns c =
-    let a = c .before .before .before .before .before .before .before .before .before .before .before .before .before .before .before .before .before .before .before .before .before .before .before .before .before .before .args in
-    let w = c .before .before .before .before .before .before .before .before .before .before .before .before .before .before .before .before .sweeps in
-    sym-eigen-is (a .n) (a .m .now) (c .before .before .before .before .before .before .before .before .before .before .before .before .before .before .before .before .before .before .before .before .before .unit .last .0) (w .last .0) (w .last .1 .0) (c .before .before .before .before .before .before .before .before .before .diagonal .last .1 .0) (c .before .before .before .before .sort .last .0) (c .before .before .before .before .sort .last .1 .0)
-    (c .before .before .before .before .before .before .before .before .before .before .before .before .before .before .before .before .before .before .before .before .before .unit .ensures) (w .ensures) (c .before .before .before .before .before .before .before .before .before .diagonal .ensures) (c .before .before .before .before .sort .ensures) (w .kept .1 .0 ∙ c .before .before .before .before .before .before .before .before .before .before .before .before .before .before .before .before .before .before .before .before .before .unit .kept .0 ∙ c .before .before .before .before .before .before .before .before .before .before .before .before .before .before .before .before .before .before .before .before .before .before .before .before .before .before .pre .1 .0)
+    let sorted = c .before .before .before .before in
+    let diag = sorted .before .before .before .before .before in
+    let swept = diag .before .before .before .before .before .before .before in
+    let unit = swept .before .before .before .before .before in
+    let o = unit .before .before .before .before .before in
+    let room = swept .sweeps .kept .1 .0 ∙ unit .unit .kept .0 ∙ o .pre .1 .0 in
+    sym-eigen-is (o .args .n) (o .args .m .now) _ _ _ _ _ _ (unit .unit .ensures) (swept .sweeps .ensures) (diag .diagonal .ensures) (sorted .sort .ensures) room
 
 pub sym-eigen-spec : {M : Type 1} → statement M
 sym-eigen-spec =

@@ -1,8 +1,9 @@
--- `freedom::values::diagonal` meets its contract. The loop's invariant: the first i entries are copied. Assumes nothing.
+-- `freedom::values::diagonal`: each entry is copied to its place behind the matrix, which is not written. The loop's invariant: the first i entries are copied. Assumes nothing.
 use Rattle.freedom.proofs.ValueLaws.{diagonal-step}
 use mathlib.Core.Path.{_≡_, refl}
 use Prim.Native.Nat.{_+_, _-_, _*_, _≤_}
 use native.Mathlib.Omega.{arith}
+use lib.ListN.{length}
 use Rattle.eigen.specs.EigenMemory.{diagonal}
 use Rattle.eigen.proofs.EigenLaws.{row-within}
 use Rattle.least_squares.specs.Memory.{part, Kept}
@@ -16,6 +17,12 @@ Inv-loop s₀ n k i₀ s i = (i ≤ n) × Kept s₀ s (n * n) (n * n + n) × (pa
 abbrev μ-loop : tie.MeasureT-loop
 μ-loop s₀ n k i₀ s i = n - i
 
+-- the scratch has its size, and row i lies within the matrix
+within : (c : tie.In-loop Inv-loop μ-loop)
+    → let a = c .before .before .args in
+    (length (c .before .loop .s) ≡ length (a .s .now)) × (c .before .loop .i * a .n + a .n ≤ a .n * a .n)
+within c = (c .before .loop .inv .1 .size, row-within (c .loop-test .taken))
+
 mul-k : tie.Need-mul-k Inv-loop μ-loop
 mul-k c = omega arith
 
@@ -24,25 +31,25 @@ unfolding diagonal
 loop-holds c = (omega arith, kept-refl _ _ _, refl)
 
 mul-s : tie.Need-mul-s Inv-loop μ-loop
-mul-s c = let z = c .before .loop .inv .1 .size in omega (arith, row-within (c .loop-test .taken))
+mul-s c = omega (arith, within c)
 
 add-s : tie.Need-add-s Inv-loop μ-loop
-add-s c = let z = c .before .loop .inv .1 .size in omega (arith, row-within (c .loop-test .taken))
+add-s c = omega (arith, within c)
 
 mul-s-2 : tie.Need-mul-s-2 Inv-loop μ-loop
-mul-s-2 c = let z = c .before .loop .inv .1 .size in omega (arith, row-within (c .loop-test .taken))
+mul-s-2 c = omega (arith, within c)
 
 slice-read-s : tie.Need-slice-read-s Inv-loop μ-loop
-slice-read-s c = let z = c .before .before .loop .inv .1 .size in omega (arith, row-within (c .before .loop-test .taken))
+slice-read-s c = omega (arith, within (c .before))
 
 add-s-2 : tie.Need-add-s-2 Inv-loop μ-loop
-add-s-2 c = let z = c .before .before .loop .inv .1 .size in omega (arith, row-within (c .before .loop-test .taken))
+add-s-2 c = omega (arith, within (c .before))
 
 mul-s-3 : tie.Need-mul-s-3 Inv-loop μ-loop
-mul-s-3 c = let z = c .before .before .loop .inv .1 .size in omega (arith, row-within (c .before .loop-test .taken))
+mul-s-3 c = omega (arith, within (c .before))
 
 slice-write-s : tie.Need-slice-write-s Inv-loop μ-loop
-slice-write-s c = let z = c .before .before .loop .inv .1 .size in omega (arith, row-within (c .before .loop-test .taken))
+slice-write-s c = omega (arith, within (c .before))
 
 add-i : tie.Need-add-i Inv-loop μ-loop
 add-i c = omega arith
