@@ -1,4 +1,5 @@
--- `body_freedom::body::body_dof` meets its contract. Assumes nothing.
+-- `body_freedom::body::body_dof`: its steps are those of the definition: the free motions of the six by six and the axes that they turn about, the pure slides of the three by three inside
+-- it, the slides filled up, and a point on each axis. Assumes nothing.
 use Rattle.vectors.specs.Vec.{vec}
 use Rattle.spans.specs.Span.{spanBasis}
 use Rattle.spans.specs.Basis.{first}
@@ -38,22 +39,55 @@ span-basis-requires-2 c κs = search needs
 
 fill-slides-requires : tie.Need-fill-slides-requires
 fill-slides-requires c κs =
-    let axes = c .before .before .before .before .span-basis in
-    let straight = c .span-basis2 in
-    (whole-of (straight .result) (spanBasis (first (c .before .before .free-of2 .result .count) (c .before .slide-parts .result)) SPAN) (straight .ensures), few-of (axes .result) _ _ (axes .ensures), c .before .before .before .before .before .before .free-of .ensures .0)
+    let slides = c .before in
+    let pure = slides .before in
+    let axes = pure .before .before in
+    let free = axes .before .before in
+    let parts = first (pure .free-of2 .result .count) (slides .slide-parts .result) in (
+      whole-of (c .span-basis2 .result) (spanBasis parts SPAN) (c .span-basis2 .ensures),
+      few-of (axes .span-basis .result) _ _ (axes .span-basis .ensures),
+      free .free-of .ensures .0,
+    )
 
 points-of-requires : tie.Need-points-of-requires
 points-of-requires c κs =
-    let axes = c .before .before .before .before .before .span-basis in
-    (c .before .before .before .before .before .before .before .free-of .ensures .0, few-of (axes .result) _ _ (axes .ensures))
+    let axes = c .before .before .before .before .before in
+    let free = axes .before .before in
+    (free .free-of .ensures .0, few-of (axes .span-basis .result) _ _ (axes .span-basis .ensures))
 
 returns : tie.Need-returns
 returns c =
-    let s = c .before .before .before .before .before .before .before .before .before .before .before in
-    body-is (s .args .a) (good-grid 6 _ _ (s .good .0)) (vec (s .args .center)) (s .args .l) (c .before .before .before .before .before .before .before .before .before .before .sym-eigen .result) (c .before .before .before .before .before .sym-eigen2 .result) (c .before .before .before .before .before .before .before .before .before .top .result) (c .before .before .before .before .before .before .before .before .free-of .result)
-    (c .before .before .before .before .free-of2 .result) (c .before .before .before .before .before .before .before .turn-parts .result) (c .before .before .before .slide-parts .result) (c .before .before .before .before .before .before .span-basis .result) (c .before .before .span-basis2 .result) (c .before .fill-slides .result) (c .points-of .result)
-    (c .before .before .before .before .before .before .before .before .before .before .sym-eigen .ensures) (c .before .before .before .before .before .before .before .before .before .top .ensures) (c .before .before .before .before .before .before .before .before .free-of .ensures .1) (c .before .before .before .before .before .before .before .turn-parts .ensures) (c .before .before .before .before .before .before .span-basis .ensures) (c .before .before .before .before .before .sym-eigen2 .ensures)
-    (c .before .before .before .before .free-of2 .ensures .1) (c .before .before .before .slide-parts .ensures) (c .before .before .span-basis2 .ensures) (c .before .fill-slides .ensures) (c .points-of .ensures)
+    let filled = c .before in
+    let straight = filled .before in
+    let slides = straight .before in
+    let pure = slides .before in
+    let inner = pure .before in
+    let axes = inner .before in
+    let turns = axes .before in
+    let free = turns .before in
+    let most = free .before in
+    let pairs = most .before in
+    let o = pairs .before in
+    body-is (o .args .a) (good-grid 6 _ _ (o .good .0)) (vec (o .args .center)) (o .args .l) (pairs .sym-eigen .result) (inner .sym-eigen2 .result) (most .top .result)
+    (free .free-of .result)
+    (pure .free-of2 .result)
+    (turns .turn-parts .result)
+    (slides .slide-parts .result)
+    (axes .span-basis .result)
+    (straight .span-basis2 .result)
+    (filled .fill-slides .result)
+    (c .points-of .result)
+    (pairs .sym-eigen .ensures)
+    (most .top .ensures)
+    (free .free-of .ensures .1)
+    (turns .turn-parts .ensures)
+    (axes .span-basis .ensures)
+    (inner .sym-eigen2 .ensures)
+    (pure .free-of2 .ensures .1)
+    (slides .slide-parts .ensures)
+    (straight .span-basis2 .ensures)
+    (filled .fill-slides .ensures)
+    (c .points-of .ensures)
 
 pub body-dof-spec : {M : Type 1} → statement M
 body-dof-spec =

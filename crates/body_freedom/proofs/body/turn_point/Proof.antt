@@ -1,4 +1,4 @@
--- `body_freedom::body::turn_point` meets its contract. Assumes nothing.
+-- `body_freedom::body::turn_point`: its steps are those of the definition; a motion that does not turn has its point at the centre. Assumes nothing.
 use Rattle.vectors.specs.Vec.{vec}
 use Rattle.body_freedom.proofs.BodyLaws.{turn-point-some, turn-point-none}
 use borrow.Author.Needs.{needs}
@@ -28,16 +28,35 @@ add-requires c κs = search needs
 
 returns : tie.Need-returns
 returns c =
-    let s = c .before .before .before .before .before .before .before .before in
-    turn-point-some (vec (s .args .center)) (s .args .l) (s .args .e) (vec (c .before .before .before .before .before .before .before .turn-part .result)) (vec (c .before .before .before .before .before .before .scale .result)) (c .before .before .before .before .before .dot .result) (c .before .before .before .before .before .before .before .turn-part .ensures)
-    (c .before .before .before .before .before .before .scale .ensures) (c .before .before .before .before .before .dot .ensures) (vec (c .before .before .before .slide-part .result)) (vec (c .before .before .cross .result)) (vec (c .before .scale2 .result)) (vec (c .add .result)) (c .before .before .before .before .if1 .taken)
-    (c .before .before .before .slide-part .ensures) (c .before .before .cross .ensures) (c .before .scale2 .ensures) (c .add .ensures)
+    let scaled = c .before in
+    let cross = scaled .before in
+    let slide = cross .before in
+    let test = slide .before in
+    let dot = test .before in
+    let axis = dot .before in
+    let turn = axis .before in
+    let g = turn .before .args in
+    turn-point-some (vec (g .center)) (g .l) (g .e) (vec (turn .turn-part .result)) (vec (axis .scale .result)) (dot .dot .result) (turn .turn-part .ensures) (axis .scale .ensures)
+    (dot .dot .ensures)
+    (vec (slide .slide-part .result))
+    (vec (cross .cross .result))
+    (vec (scaled .scale2 .result))
+    (vec (c .add .result))
+    (test .if1 .taken)
+    (slide .slide-part .ensures)
+    (cross .cross .ensures)
+    (scaled .scale2 .ensures)
+    (c .add .ensures)
 
 returns-2 : tie.Need-returns-2
 returns-2 c =
-    let s = c .before .before .before .before in
-    turn-point-none (vec (s .args .center)) (s .args .l) (s .args .e) (vec (c .before .before .before .turn-part .result)) (vec (c .before .before .scale .result)) (c .before .dot .result) (c .before .before .before .turn-part .ensures)
-    (c .before .before .scale .ensures) (c .before .dot .ensures) (c .if1 .left)
+    let dot = c .before in
+    let axis = dot .before in
+    let turn = axis .before in
+    let g = turn .before .args in
+    turn-point-none (vec (g .center)) (g .l) (g .e) (vec (turn .turn-part .result)) (vec (axis .scale .result)) (dot .dot .result) (turn .turn-part .ensures) (axis .scale .ensures)
+    (dot .dot .ensures)
+    (c .if1 .left)
 
 pub turn-point-spec : {M : Type 1} → statement M
 turn-point-spec =

@@ -1,4 +1,4 @@
--- `body_freedom::body_slopes::one_unknown` meets its contract. Assumes nothing.
+-- `body_freedom::body_slopes::one_unknown`: six zeros, and one store. Assumes nothing.
 use mathlib.Core.Path.{refl}
 use borrow.Author.Needs.{needs}
 use Rattle.least_squares.specs.Lm.{listOf}

@@ -1,4 +1,4 @@
--- `body_freedom::body_slopes::put_shifted` meets its contract. Assumes nothing.
+-- `body_freedom::body_slopes::put_shifted`: the pose that is put is the shifted one of the body's record. Assumes nothing.
 use mathlib.Core.Path.{ap, _∙_}
 use borrow.Author.Needs.{needs}
 use Rattle.relations.specs.Model.{Body}

@@ -1,4 +1,4 @@
--- `body_freedom::body_slopes::put_start` meets its contract. Assumes nothing.
+-- `body_freedom::body_slopes::put_start`: the pose that is put is that of the frame of the body's record. Assumes nothing.
 use mathlib.Core.Path.{ap, _∙_}
 use borrow.Author.Needs.{needs}
 use Rattle.relations.specs.Model.{Body, poseOfFrame}

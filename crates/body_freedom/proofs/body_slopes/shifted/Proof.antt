@@ -1,4 +1,4 @@
--- `body_freedom::body_slopes::shifted` meets its contract. Assumes nothing.
+-- `body_freedom::body_slopes::shifted`: the pose moved by the six unknowns, the turning ones over the half size that the call gives. Assumes nothing.
 use borrow.Author.Needs.{needs}
 use Rattle.relations.specs.Model.{bodyOf}
 use Rattle.body_freedom.proofs.BodySlopeLaws.{shifted-is}

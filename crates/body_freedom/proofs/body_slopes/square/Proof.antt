@@ -1,4 +1,4 @@
--- `body_freedom::body_slopes::square` meets its contract. Assumes nothing.
+-- `body_freedom::body_slopes::square`: six rows of six make the table. Assumes nothing.
 use native.Mathlib.Omega.{arith}
 use Rattle.body_freedom.specs.Dof.{columnsTimes}
 use Rattle.body_freedom.proofs.BodySlopeLaws.{six-rows}

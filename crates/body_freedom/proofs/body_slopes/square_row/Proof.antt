@@ -1,4 +1,4 @@
--- `body_freedom::body_slopes::square_row` meets its contract. Assumes nothing.
+-- `body_freedom::body_slopes::square_row`: each of the six entries is the sum that its call gives. Assumes nothing.
 use native.Mathlib.Omega.{arith}
 use Rattle.least_squares.specs.Lm.{listOf}
 use Rattle.body_freedom.proofs.body_slopes.square_row.Statement.{statement}

@@ -1,4 +1,4 @@
--- `freedom::total::divide` meets its contract. Assumes nothing.
+-- `freedom::total::divide`: three doubles are read, then stored over l, one after another as in the definition. Assumes nothing.
 use native.Mathlib.Omega.{arith}
 use lib.ListN.{length-set}
 use borrow.Author.Needs.{needs}

@@ -1,4 +1,4 @@
--- `freedom::total::rank_of` meets its contract. Assumes nothing.
+-- `freedom::total::rank_of`: by the definition's two cases, whether the largest value's root is above 0. Assumes nothing.
 use borrow.Author.Needs.{needs}
 use Rattle.freedom.specs.Total.{rankOf}
 use Rattle.freedom.proofs.total.rank_of.Statement.{statement}

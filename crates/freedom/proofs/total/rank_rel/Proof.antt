@@ -1,4 +1,5 @@
--- `freedom::total::rank_rel` meets its contract. Assumes nothing.
+-- `freedom::total::rank_rel`: without rows or unknowns the rank is 0; else the square is put behind the slopes, its values behind it, and the rank is by them. The values are worked out
+-- in the rest that is lent from the square on (`rank-rel-is`). Assumes nothing.
 use Rattle.freedom.proofs.TotalLaws.{rank-no-rows, rank-no-columns, rank-rel-is}
 use borrow.Author.Needs.{needs}
 use borrow.Author.Tests.{eq-eqb, ne-eqb}
@@ -60,7 +61,16 @@ same-length : tie.Need-same-length
 same-length c = search needs
 
 returns-3 : tie.Need-returns-3
-returns-3 c = rank-rel-is (c .before .before .before .before .before .before .before .before .before .before .before .before .before .before .args .s .now) (c .before .before .before .before .before .before .before .before .before .square .last .0) (c .before .before .before .before .before .values .last .0) (c .before .before .before .before .before .before .before .before .before .before .before .before .before .before .args .rows) (c .before .before .before .before .before .before .before .before .before .before .before .before .before .before .args .n) (c .rank-of .result) (c .before .before .before .before .before .before .before .before .before .before .before .before .before .before .pre) (ne-eqb _ _ (c .before .before .before .before .before .before .before .before .before .before .before .before .if1 .left)) (ne-eqb _ _ (c .before .before .before .before .before .before .before .before .before .before .before .if2 .left)) (c .before .before .before .before .before .before .before .before .before .square .ensures) (c .before .before .before .before .before .values .ensures) (c .rank-of .ensures)
+returns-3 c =
+    let valued = c .before .before .before .before .before in
+    let squared = valued .before .before .before .before in
+    let columns = squared .before .before in
+    let rows = columns .before in
+    let o = rows .before .before in
+    let g = o .args in
+    rank-rel-is (g .s .now) _ _ (g .rows) (g .n) (c .rank-of .result) (o .pre) (ne-eqb _ _ (rows .if1 .left)) (ne-eqb _ _ (columns .if2 .left)) (squared .square .ensures)
+    (valued .values .ensures)
+    (c .rank-of .ensures)
 
 pub rank-rel-spec : {M : Type 1} → statement M
 rank-rel-spec =

@@ -1,4 +1,4 @@
--- `freedom::total::scale_body` meets its contract. Assumes nothing.
+-- `freedom::total::scale_body`: half the size is that of the body's record, and by it the body's turning unknowns are scaled. Assumes nothing.
 use mathlib.Core.Path.{refl, ap, subst, _∙_}
 use native.Mathlib.Omega.{arith}
 use lib.ListN.{getD}

@@ -1,4 +1,4 @@
--- `freedom::total::scale_turns` meets its contract. Assumes nothing.
+-- `freedom::total::scale_turns`: a body that has no unknowns leaves all as it is; else three doubles of the part are divided, which are the body's turning unknowns. Assumes nothing.
 use Rattle.freedom.proofs.TotalLaws.{scale-none, scale-some}
 use native.Mathlib.Omega.{arith}
 use borrow.Author.Needs.{needs}

@@ -1,4 +1,5 @@
--- `freedom::total::scaled_rows` meets its contract. Assumes nothing.
+-- `freedom::total::scaled_rows`: the unknowns are copied, the turning ones of the copy scaled, and the rows worked out there; each step keeps the size of the scratch and what stands
+-- below its places. Assumes nothing.
 use Rattle.freedom.proofs.TotalLaws.{scaled-rows-is}
 use mathlib.Core.Path.{_∙_}
 use native.Mathlib.Omega.{arith}
@@ -10,18 +11,38 @@ copy-requires : tie.Need-copy-requires
 copy-requires c κs = (omega arith, omega arith)
 
 scale-requires : tie.Need-scale-requires
-scale-requires c κs = let u = c .before .before .before .copy .ensures .kept .size in (c .before .before .before .before .before .before .before .pre .0, omega arith)
+scale-requires c κs =
+    let copied = c .before .before .before in
+    let u = copied .copy .ensures .kept .size in
+    (copied .before .before .before .before .pre .0, omega arith)
 
 rows-at-requires : tie.Need-rows-at-requires
-rows-at-requires c κs = let u = c .before .before .before .before .before .before .before .copy .ensures .kept .size in let w = c .before .before .before .scale .ensures .kept .size in (c .before .before .before .before .before .before .before .before .before .before .before .pre .0, (omega arith, (omega arith, omega arith)))
+rows-at-requires c κs =
+    let scaled = c .before .before .before in
+    let copied = scaled .before .before .before .before in
+    let u = copied .copy .ensures .kept .size in
+    let w = scaled .scale .ensures .kept .size in
+    (copied .before .before .before .before .pre .0, (omega arith, (omega arith, omega arith)))
 
 same-length : tie.Need-same-length
-same-length c = c .before .before .rows-at .ensures .size ∙ c .before .before .before .before .before .before .scale .ensures .kept .size ∙ c .before .before .before .before .before .before .before .before .before .before .copy .ensures .kept .size
+same-length c =
+    let rows = c .before .before in
+    let scaled = rows .before .before .before .before in
+    let copied = scaled .before .before .before .before in
+    rows .rows-at .ensures .size ∙ scaled .scale .ensures .kept .size ∙ copied .copy .ensures .kept .size
 
 returns : tie.Need-returns
 returns c =
-    let g = c .before .before .before .before .before .before .before .before .before .before .before .before .before .before .args in
-    scaled-rows-is (sceneOf (g .sheet .now) (g .scene)) (g .s .now) _ _ _ (g .parts .next) (g .scene .n) (g .parts .scaled) (g .r) (g .scene .rows) (g .parts .poses) (omega (arith, c .before .before .before .before .before .before .before .before .before .before .before .before .before .before .pre .1)) (c .before .before .before .before .before .before .before .before .before .before .copy .ensures) (c .before .before .before .before .before .before .scale .ensures) (c .before .before .rows-at .ensures)
+    let rows = c .before .before in
+    let scaled = rows .before .before .before .before in
+    let copied = scaled .before .before .before .before in
+    let o = copied .before .before .before .before in
+    let g = o .args in
+    scaled-rows-is (sceneOf (g .sheet .now) (g .scene)) (g .s .now) _ _ _ (g .parts .next) (g .scene .n) (g .parts .scaled) (g .r) (g .scene .rows) (g .parts .poses)
+    (omega (arith, o .pre .1))
+    (copied .copy .ensures)
+    (scaled .scale .ensures)
+    (rows .rows-at .ensures)
 
 pub scaled-rows-spec : {M : Type 1} → statement M
 scaled-rows-spec =

@@ -1,15 +1,22 @@
--- `freedom::total::slope_column` meets its contract. The copy of the unknowns is a step ahead, a step behind, and at last as it was. Assumes nothing.
+-- `freedom::total::slope_column`: in the copy of the unknowns one goes a step ahead, a step behind, and at last back; in between the scaled rows are worked out, and from both the
+-- column is put. By the law of columns for any function of the unknowns; the scratch keeps its size over both rows (`ahead-size`, `behind-size`). Assumes nothing.
 use Rattle.freedom.proofs.TotalLaws.{still-apart, slope-column-is}
-use mathlib.Core.Path.{sym, ap, _∙_}
+use mathlib.Core.Path.{_≡_, sym, ap, _∙_}
 use Prim.Native.Nat.{ℕ}
 use native.Mathlib.Nat.{zero-add}
 use native.Mathlib.Omega.{arith}
-use lib.ListN.{getD, length-set}
+use lib.ListN.{length, getD, length-set}
 use lib.Ieee.{nan}
 use Rattle.scene.specs.Scene.{sceneOf}
 use Rattle.body_freedom.specs.Dof.{scaledRows}
 use Rattle.freedom.proofs.total.slope_column.Statement.{statement}
 use Rattle.freedom.proofs.total.slope_column.Tie as tie
+
+ahead-size : (c : tie.After-scaled-rows) → length (c .scaled-rows .last .1 .1 .0) ≡ length (c .before .before .before .before .before .before .before .args .s .now)
+ahead-size c = simp length-set at (c .scaled-rows .ensures .size)
+
+behind-size : (c : tie.After-scaled-rows2) → length (c .scaled-rows2 .last .1 .1 .0) ≡ length (c .before .before .before .before .before .before .before .before .before .before .before .args .s .now)
+behind-size c = (simp length-set at (c .scaled-rows2 .ensures .size)) ∙ ahead-size (c .before .before .before .before)
 
 add-at : tie.Need-add-at
 add-at c = omega arith
@@ -35,37 +42,50 @@ scaled-rows-requires c κs =
     (h .0, (simp length-set (h .1 .1 .0), (omega arith, omega arith)))
 
 mul-s-2 : tie.Need-mul-s-2
-mul-s-2 c = let u = simp length-set at (c .before .before .scaled-rows .ensures .size) in omega arith
+mul-s-2 c = omega (arith, ahead-size (c .before .before))
 
 slice-write-s-2 : tie.Need-slice-write-s-2
-slice-write-s-2 c = let u = simp length-set at (c .before .before .scaled-rows .ensures .size) in omega arith
+slice-write-s-2 c = omega (arith, ahead-size (c .before .before))
 
 scaled-rows-requires-2 : tie.Need-scaled-rows-requires-2
 scaled-rows-requires-2 c κs =
-    let u = simp length-set at (c .before .before .before .scaled-rows .ensures .size) in
-    let h = c .before .before .before .before .before .before .before .before .before .before .pre in
+    let ahead = c .before .before .before in
+    let h = ahead .before .before .before .before .before .before .before .pre in
+    let u = ahead-size ahead in
     (h .0, (simp length-set (still-apart _ _ _ _ u (h .1 .1 .0)), (omega arith, omega arith)))
 
 mul-s-3 : tie.Need-mul-s-3
-mul-s-3 c = let u = simp length-set at (c .before .before .before .before .before .before .scaled-rows .ensures .size) in let w = simp length-set at (c .before .before .scaled-rows2 .ensures .size) in omega arith
+mul-s-3 c = omega (arith, behind-size (c .before .before))
 
 slice-write-s-3 : tie.Need-slice-write-s-3
-slice-write-s-3 c = let u = simp length-set at (c .before .before .before .before .before .before .scaled-rows .ensures .size) in let w = simp length-set at (c .before .before .scaled-rows2 .ensures .size) in omega arith
+slice-write-s-3 c = omega (arith, behind-size (c .before .before))
 
 put-column-requires : tie.Need-put-column-requires
-put-column-requires c κs = let u = simp length-set at (c .before .before .before .before .before .before .before .scaled-rows .ensures .size) in let w = simp length-set at (c .before .before .before .scaled-rows2 .ensures .size) in (omega arith, (omega arith, (omega arith, simp length-set (omega arith))))
+put-column-requires c κs =
+    let u = behind-size (c .before .before .before) in
+    (omega arith, (omega arith, (omega arith, simp length-set (omega arith))))
 
 same-length : tie.Need-same-length
-same-length c = (simp length-set at (c .before .before .put-column .ensures .kept .size)) ∙ (simp length-set at (c .before .before .before .before .before .before .scaled-rows2 .ensures .size)) ∙ (simp length-set at (c .before .before .before .before .before .before .before .before .before .before .scaled-rows .ensures .size))
+same-length c =
+    let column = c .before .before in
+    (simp length-set at (column .put-column .ensures .kept .size)) ∙ behind-size (column .before .before .before .before)
 
 returns : tie.Need-returns
 returns c =
-    let g = c .before .before .before .before .before .before .before .before .before .before .before .before .before .before .before .before .before .args in
-    let q = c .before .before .before .before .before .before .before .before .before .before .before .before .before .before .before .before .before .pre .1 in
+    let column = c .before .before in
+    let behind = column .before .before .before .before in
+    let ahead = behind .before .before .before .before in
+    let step = ahead .before .before in
+    let o = step .before .before .before .before .before in
+    let g = o .args in
+    let q = o .pre .1 in
     let h = q .1 .0 in
-    slope-column-is (scaledRows (sceneOf (g .sheet .now) (g .scene))) (g .s .now) _ _ _ (g .parts .slopes) (g .scene .n) (g .scene .rows) 0 (g .parts .next) (g .parts .scaled) (g .parts .ahead) (g .parts .behind) (g .c)
+    slope-column-is (scaledRows (sceneOf (g .sheet .now) (g .scene))) (g .s .now) _ _ _ (g .parts .slopes) (g .scene .n) (g .scene .rows) 0 (g .parts .next) (g .parts .scaled)
+    (g .parts .ahead)
+    (g .parts .behind)
+    (g .c)
     (getD (g .s .now) (g .c) nan)
-    (c .before .before .before .before .before .before .before .before .before .before .before .before .step-of .result)
+    (step .step-of .result)
     (q .0)
     (omega (arith, h .slopes))
     (h .next)
@@ -74,10 +94,10 @@ returns c =
     (omega (arith, h .behind, h .poses))
     (q .1 .1)
     (ap (λ (w : ℕ). getD (g .s .now) w nan) (sym (zero-add (g .c))))
-    (c .before .before .before .before .before .before .before .before .before .before .before .before .step-of .ensures)
-    (c .before .before .before .before .before .before .before .before .before .before .scaled-rows .ensures)
-    (c .before .before .before .before .before .before .scaled-rows2 .ensures)
-    (c .before .before .put-column .ensures)
+    (step .step-of .ensures)
+    (ahead .scaled-rows .ensures)
+    (behind .scaled-rows2 .ensures)
+    (column .put-column .ensures)
 
 pub slope-column-spec : {M : Type 1} → statement M
 slope-column-spec =

@@ -1,4 +1,4 @@
--- `freedom::total::stiff_one` meets its contract. Assumes nothing.
+-- `freedom::total::stiff_one`: by the definition's two cases. Assumes nothing.
 use borrow.Author.Needs.{needs}
 use Rattle.freedom.specs.Total.{stiffOne}
 use Rattle.freedom.proofs.total.stiff_one.Statement.{statement}

@@ -1,4 +1,4 @@
--- `freedom::total::unnamed_one` meets its contract. Assumes nothing.
+-- `freedom::total::unnamed_one`: by cases, whether the body has unknowns, and whether it is fixed. Assumes nothing.
 use borrow.Author.Tests.{eq-eqb, ne-eqb}
 use Rattle.scene.specs.Scene.{firstUnknown}
 use Rattle.freedom.specs.Total.{unnamedOne}

@@ -1,5 +1,5 @@
--- `eigen6::sym_eigen` meets its contract. The loops' invariants: the row's first entries are cleared, the first rows are swept, and the sweeps left give what all would.
--- Assumes nothing.
+-- `eigen6::sym_eigen`: sweeps, rows and rotations as in the definition on lists, and the sort of the pairs that they leave. The loops' invariants: the row's first entries are cleared, the
+-- first rows are swept, and the sweeps left give what all would. Assumes nothing.
 use native.Mathlib.Omega.{arith}
 use Prim.Native.Nat.{_+_, _-_, _≤_}
 use mathlib.Core.Path.{_≡_, refl, sym, _∙_}
@@ -65,9 +65,11 @@ loop3-less c = omega arith
 
 loop3-again : tie.Need-loop3-again Inv-loop3 μ-loop3 Inv-loop2 μ-loop2 Inv-loop μ-loop
 loop3-again c =
-    let n = c .before .before .before .before .before .before .before .before .before .before .before .args .n in
-    let l = c .before .before .before .before .loop3 in
-    let p = c .before .before .before .before .before .before .loop2 .p in
+    let row = c .before .before .before .before in
+    let sweep = row .before .before in
+    let n = sweep .before .before .before .before .before .args .n in
+    let l = row .loop3 in
+    let p = sweep .loop2 .p in
     let turn = rotate-step n p (l .q) (l .m) (l .v) _ _ _ (omega arith) (l .inv .2) (omega arith) (omega arith)
     (c .before .before .rotation-at .ensures) (c .before .rotate .ensures) (c .rotate-vectors .ensures) in
     (omega arith, omega arith, good-grid 6 _ _ (c .before .rotate .ok), row-step n p (l .q) _ _ _ (l .inv .0) (l .inv .3) turn)
@@ -80,11 +82,11 @@ loop2-less c = omega arith
 
 loop2-again : tie.Need-loop2-again Inv-loop3 μ-loop3 Inv-loop2 μ-loop2 Inv-loop μ-loop
 loop2-again c =
-    let n = c .before .before .before .before .before .before .before .before .args .n in
-    let l = c .before .loop3 in
-    let p = c .before .before .before .loop2 .p in
-    let e : l .q ≡ n = omega arith in
-    (omega arith, l .inv .2, sweep-step n p _ _ _ (c .before .before .before .loop2 .inv .2) (rw e at (l .inv .3)))
+    let row = c .before in
+    let sweep = row .before .before in
+    let n = sweep .before .before .before .before .before .args .n in
+    let e : row .loop3 .q ≡ n = omega arith in
+    (omega arith, row .loop3 .inv .2, sweep-step n (sweep .loop2 .p) _ _ _ (sweep .loop2 .inv .2) (rw e at (row .loop3 .inv .3)))
 
 add-sweep : tie.Need-add-sweep Inv-loop3 μ-loop3 Inv-loop2 μ-loop2 Inv-loop μ-loop
 add-sweep c = omega arith
@@ -94,11 +96,14 @@ loop-less c = omega arith
 
 loop-again : tie.Need-loop-again Inv-loop3 μ-loop3 Inv-loop2 μ-loop2 Inv-loop μ-loop
 loop-again c =
-    let n = c .before .before .before .before .before .before .args .n in
-    let w = c .before .loop2 in
-    let l = c .before .before .before .before .before .loop in
+    let sweep = c .before in
+    let test = sweep .before in
+    let head = test .before .before .before in
+    let n = head .before .args .n in
+    let w = sweep .loop2 in
+    let l = head .loop in
     let e : w .p ≡ n = omega arith in
-    let more = sym (c .before .before .before .settled .ensures) ∙ c .before .before .if1 .left in
+    let more = sym (test .before .settled .ensures) ∙ test .if1 .left in
     (omega arith, w .inv .1, sweeps-step n (l .sweep) _ _ _ (omega arith) more (rw e at (w .inv .2)) (l .inv .2))
 
 pairs-requires : tie.Need-pairs-requires Inv-loop3 μ-loop3 Inv-loop2 μ-loop2 Inv-loop μ-loop
@@ -109,13 +114,15 @@ sorted-requires c κs = omega arith
 
 returns : tie.Need-returns Inv-loop3 μ-loop3 Inv-loop2 μ-loop2 Inv-loop μ-loop
 returns c =
-    let n = c .before .before .before .before .args .n in
-    let l = c .before .before .before .loop in
+    let end = c .before .before in
+    let head = end .before in
+    let a = head .before .args in
+    let l = head .loop in
     let swept = ⊎-elim
-    (λ w. sweeps-end n (l .sweep) _ _ (w .left) (l .inv .2))
-    (λ w. sym (sweeps-stop n (100 - l .sweep) _ (sym (w .1 .ensures) ∙ w .2 .taken)) ∙ l .inv .2)
-    (c .before .before .loop-test .came) in
-    finished n (c .before .before .before .before .args .a) _ _ _ (omega arith) swept (c .before .pairs .ensures) (c .sorted .ensures)
+    (λ w. sweeps-end (a .n) (l .sweep) _ _ (w .left) (l .inv .2))
+    (λ w. sym (sweeps-stop (a .n) (100 - l .sweep) _ (sym (w .1 .ensures) ∙ w .2 .taken)) ∙ l .inv .2)
+    (end .loop-test .came) in
+    finished (a .n) (a .a) _ _ _ (omega arith) swept (c .before .pairs .ensures) (c .sorted .ensures)
 
 pub sym-eigen-spec : {M : Type 1} → statement M
 sym-eigen-spec =
