@@ -3,10 +3,13 @@
 //
 // A record is four numbers of 8 bytes, little endian: 0 and the bits of t, its sine and its cosine, or 1 and the bits of y, x and their arctangent.
 
+use arcs::arc;
+use lists::answers::counted;
+use lists::answers::same;
+use lists::list::END;
+use lists::list::double;
+use lists::list::word;
 use std::num::wrapping_add_u64;
-ghost use Prim.Native.Nat.{_+_, _≤_, _<_};
-ghost use mathlib.Core.Path.{_≡_};
-ghost use lib.ListN.{length};
 
 struct Tally {
     sines: u64,
@@ -14,81 +17,42 @@ struct Tally {
     wrong: u64,
 }
 
-fn wide(x: u8) -> u64
-    ensures { λ r. ⌜ r < 256 ⌝ }
-{
-    x as u64
-}
-
-fn word(s: &[u8], at: usize) -> u64
-    requires { ⌜ at + 8 ≤ length (now s) ⌝ }
-{
-    wide(s[at])
-        + wide(s[at + 1]) * 0x100
-        + wide(s[at + 2]) * 0x10000
-        + wide(s[at + 3]) * 0x1000000
-        + wide(s[at + 4]) * 0x100000000
-        + wide(s[at + 5]) * 0x10000000000
-        + wide(s[at + 6]) * 0x1000000000000
-        + wide(s[at + 7]) * 0x100000000000000
-}
-
-fn double(n: u64) -> f64 {
-    if n % 0x8000000000000000 > 0x7ff0000000000000 {
-        0.0 / 0.0
-    } else {
-        f64::from_bits(n)
-    }
-}
-
-// Whether x has the bits n; all NaNs are the same.
-fn same(x: f64, n: u64) -> bool {
-    if x != x {
-        n % 0x8000000000000000 > 0x7ff0000000000000
-    } else {
-        f64::to_bits(x) == n
-    }
-}
-
-fn one_if(wrong: bool) -> u64 {
-    if wrong { 1 } else { 0 }
-}
-
-fn sines(n: Tally, t: u64, sine: u64, cosine: u64) -> Tally {
-    let x = double(t);
-    let r = arcs::arc::sine_cosine(x);
-    let whole = same(r.sine, sine) && same(r.cosine, cosine);
-    let apart = same(arcs::arc::sine(x), sine) && same(arcs::arc::cosine(x), cosine);
+fn sines(n: Tally) -> Tally {
+    let t = double(0);
+    let sine = word(0);
+    let cosine = word(0);
+    let r = arc::sine_cosine(t);
+    let whole = same(r.sine, sine) & same(r.cosine, cosine);
+    let apart = same(arc::sine(t), sine) & same(arc::cosine(t), cosine);
     Tally {
         sines: wrapping_add_u64(n.sines, 1),
         arctangents: n.arctangents,
-        wrong: wrapping_add_u64(n.wrong, one_if(!whole || !apart)),
+        wrong: counted(n.wrong, whole & apart),
     }
 }
 
-fn arctangents(n: Tally, y: u64, x: u64, arctangent: u64) -> Tally {
-    let right = same(arcs::arc::arctangent(double(y), double(x)), arctangent);
+fn arctangents(n: Tally) -> Tally {
+    let y = double(0);
+    let x = double(0);
     Tally {
         sines: n.sines,
         arctangents: wrapping_add_u64(n.arctangents, 1),
-        wrong: wrapping_add_u64(n.wrong, one_if(!right)),
+        wrong: counted(n.wrong, same(arc::arctangent(y, x), word(0))),
     }
 }
 
-fn counted(n: Tally, s: &[u8]) -> Tally
-    requires { ⌜ 32 ≤ length (now s) ⌝ }
-{
-    let kind = word(s, 0);
+// A record's first number says what follows.
+fn record(n: Tally, kind: u64) -> Tally {
     if kind == 0 {
-        return sines(n, word(s, 8), word(s, 16), word(s, 24));
+        return sines(n);
     }
     if kind == 1 {
-        return arctangents(n, word(s, 8), word(s, 16), word(s, 24));
+        return arctangents(n);
     }
     Tally {
         sines: n.sines,
         arctangents: n.arctangents,
-        wrong: wrapping_add_u64(n.wrong, 1),
+        wrong: counted(n.wrong, false),
     }
 }
 
@@ -107,12 +71,11 @@ fn replay() -> Tally {
     };
     let mut i = 0usize;
     while i < 100000 {
-        let mut record = [0u8; 32];
-        let got = io::read_full(0, &mut record);
-        if got < 32 {
+        let kind = word(0);
+        if kind == END {
             return n;
         }
-        let more = counted(n, &record);
+        let more = record(n, kind);
         n = more;
         i += 1;
     }

@@ -2,7 +2,7 @@
 use mathlib.Core.Path.{sym, _∙_}
 use lib.Ieee.{toBits}
 use borrow.Author.Needs.{needs}
-use Rattle.numbers.specs.DoubleLaws.{ne-self, nan-only}
+use Rattle.numbers.proofs.DoubleLaws.{ne-self, nan-only}
 use Rattle.lists.proofs.answers.bits.Statement.{statement}
 use Rattle.lists.proofs.answers.bits.Tie as tie
 
