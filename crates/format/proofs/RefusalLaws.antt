@@ -48,8 +48,8 @@ and-right false b h = cc
 
 -- ---- the header
 
-passes : (a b c d : Bool) → _≡_ {A = ℕ} (cond a (cond b (cond c (cond d 0 4) 3) 2) 1) 0 → (a ≡ true) × (d ≡ true)
-passes true true true true h = (refl, refl)
+pub passes : (a b c d : Bool) → _≡_ {A = ℕ} (cond a (cond b (cond c (cond d 0 4) 3) 2) 1) 0 → (a ≡ true) × (b ≡ true) × (c ≡ true) × (d ≡ true)
+passes true true true true h = (refl, refl, refl, refl)
 passes true true true false h = absurd (let z : _≡_ {A = ℕ} 4 0 = h in omega arith)
 passes true true false d h = absurd (let z : _≡_ {A = ℕ} 3 0 = h in omega arith)
 passes true false c d h = absurd (let z : _≡_ {A = ℕ} 2 0 = h in omega arith)
@@ -66,7 +66,7 @@ header-passes s h =
     let p = passes (leb 24 (length s)) (headerZeros s) (headerCounts s) (headerOffsets s) h in
     record {
       header = leb-true 24 (length s) (p .0);
-      whole = eqb-true (length s) (relStart (bodiesOf s) (relationsOf s)) (search (and-right, p .1));
+      whole = eqb-true (length s) (relStart (bodiesOf s) (relationsOf s)) (search (and-right, p .3));
     }
 
 -- ---- the whole sheet

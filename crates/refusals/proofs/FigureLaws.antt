@@ -1,7 +1,7 @@
 -- How many unknowns and rows a scene can have, and that the scratch figures of the code are those of the definitions. By induction over bodies and relations. Assumes
 -- nothing.
-use mathlib.Core.Path.{_≡_, refl, sym, ap, _∙_}
-use mathlib.Core.Bool.{Bool, true, false, _&&_, cond}
+use mathlib.Core.Path.{_≡_, sym, ap, _∙_}
+use mathlib.Core.Bool.{Bool, true, false}
 use mathlib.Core.List.{List, [], _∷_, _++_}
 use mathlib.Core.Option.{Option, none, some}
 use Prim.Native.Nat.{ℕ, suc, _+_, _*_, _≤_}
@@ -25,7 +25,7 @@ use Rattle.format.specs.Format.{bodiesOf, relationsOf}
 use Rattle.refusals.specs.SceneAt.{sceneAt}
 use Rattle.format.specs.Faults.{orElse, headerZeros, headerCounts, headerOffsets, headerFault, bodiesFault, relsFault, sheetFault}
 use Rattle.refusals.specs.Refusals.{rowsIn}
-use Rattle.format.proofs.RefusalLaws.{none-of}
+use Rattle.format.proofs.RefusalLaws.{none-of, and-left, and-right, passes}
 
 -- six unknowns to a body at the most
 layout-more : (t : Bool) (next k : ℕ) (a b : List (Option ℕ)) → unknownsIn a ≤ 6 * k → unknownsIn b ≤ 6 * k → unknownsIn (elim t [ true ↦ some next ∷ a | false ↦ none ∷ b ]) ≤ 6 * suc k
@@ -57,25 +57,12 @@ rows-le poses (rel ∷ rels) = rows-more (rowsAt poses rel) _ (length rels) (rel
 
 -- ---- a sheet that passes has at most 64 bodies and 128 relations
 
-counts : (a b c d : Bool) → _≡_ {A = ℕ} (cond a (cond b (cond c (cond d 0 4) 3) 2) 1) 0 → c ≡ true
-counts true true true d h = refl
-counts true true false d h = absurd (let z : _≡_ {A = ℕ} 3 0 = h in omega arith)
-counts true false c d h = absurd (let z : _≡_ {A = ℕ} 2 0 = h in omega arith)
-counts false b c d h = absurd (let z : _≡_ {A = ℕ} 1 0 = h in omega arith)
-
-both : (a b : Bool) → a && b ≡ true → (a ≡ true) × (b ≡ true)
-both true b h = (refl, h)
-both false b h = absurd (let z : _≡_ {A = Bool} false true = h in false-true z)
-  where
-    false-true : _≡_ {A = Bool} false true → ⊥
-    false-true z = let w : _≡_ {A = ℕ} 0 1 = cc in omega arith
-
 pub counted : (s : List ℕ) → sheetFault s ≡ 0 → (bodiesOf s ≤ 64) × (relationsOf s ≤ 128)
 unfolding sheetFault headerFault headerCounts
 counted s h =
     let f = none-of (headerFault s) (orElse (bodiesFault s (bodiesOf s)) (relsFault s (relationsOf s))) h .0 in
-    let c = both (leb (bodiesOf s) 64) (leb (relationsOf s) 128) (counts (leb 24 (length s)) (headerZeros s) (headerCounts s) (headerOffsets s) f) in
-    (leb-true (bodiesOf s) 64 (c .0), leb-true (relationsOf s) 128 (c .1))
+    let c = passes (leb 24 (length s)) (headerZeros s) (headerCounts s) (headerOffsets s) f .2 in
+    (leb-true (bodiesOf s) 64 (and-left (leb (bodiesOf s) 64) _ c), leb-true (relationsOf s) 128 (and-right (leb (bodiesOf s) 64) _ c))
 
 -- ---- the scene's counts are R and n
 

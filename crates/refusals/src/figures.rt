@@ -4,7 +4,7 @@ use records::record::u16_at;
 use scene::scene::Scene;
 use scene::scene::scene_of;
 ghost use mathlib.Core.Path.{_≡_};
-ghost use Prim.Native.Nat.{_+_, _*_};
+ghost use Prim.Native.Nat.{_+_, _*_, _≤_};
 ghost use Rattle.scene.specs.Scene.{SceneMade};
 ghost use Rattle.format.specs.Format.{bodiesOf, relationsOf};
 ghost use Rattle.format.specs.Faults as faults;
@@ -20,14 +20,25 @@ pub fn scene_in(s: &[u8]) -> Scene
     scene_of(s, 24, m, 24 + 136 * m, k)
 }
 
+// What both figures are: the square is R² for `solve` and n² for `dof`.
+fn figure(rows: usize, n: usize, m: usize, square: usize) -> usize
+    requires { ⌜ (rows ≤ 896) × (n ≤ 384) ⌝ }
+    requires { ⌜ (m ≤ 64) × (square ≤ 802816) ⌝ }
+    requires { ⌜ rows * n ≤ 344064 ⌝ }
+    ensures { λ r. ⌜ r ≡ rows * n + 2 * square + 8 * rows + 8 * n + 32 * m ⌝ }
+{
+    rows * n + 2 * square + 8 * rows + 8 * n + 32 * m
+}
+
 pub fn solve_scratch(s: &[u8]) -> usize
     requires { ⌜ faults.sheetFault (now s) ≡ 0 ⌝ }
     ensures { λ r. ⌜ r ≡ spec.solveScratch (now (s .entry)) ⌝ }
 {
     let c = scene_in(s);
-    let r = c.rows;
+    let rows = c.rows;
     let n = c.n;
-    r * n + 2 * (r * r) + 8 * r + 8 * n + 32 * c.m
+    let m = c.m;
+    figure(rows, n, m, rows * rows)
 }
 
 pub fn dof_scratch(s: &[u8]) -> usize
@@ -35,7 +46,8 @@ pub fn dof_scratch(s: &[u8]) -> usize
     ensures { λ r. ⌜ r ≡ spec.dofScratch (now (s .entry)) ⌝ }
 {
     let c = scene_in(s);
-    let r = c.rows;
+    let rows = c.rows;
     let n = c.n;
-    r * n + 2 * (n * n) + 8 * r + 8 * n + 32 * c.m
+    let m = c.m;
+    figure(rows, n, m, n * n)
 }

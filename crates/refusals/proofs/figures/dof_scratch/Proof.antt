@@ -1,63 +1,30 @@
--- `refusals::figures::dof_scratch` meets its contract, by the laws of FigureLaws. Assumes nothing.
+-- `refusals::figures::dof_scratch`: the scene's counts are those of the definition (`row-count`, `unknown-count`), and so small that the figure fits (`few`). Assumes nothing.
 use native.Mathlib.Omega.{arith}
-use Rattle.refusals.proofs.FigureLaws.{few, row-count, unknown-count}
 use borrow.Author.Needs.{needs}
+use Rattle.refusals.proofs.FigureLaws.{Few, few, row-count, unknown-count}
 use Rattle.refusals.proofs.figures.dof_scratch.Statement.{statement}
 use Rattle.refusals.proofs.figures.dof_scratch.Tie as tie
 
 scene-in-requires : tie.Need-scene-in-requires
 scene-in-requires c κs = search needs
 
-mul-result : tie.Need-mul-result
-mul-result c = let z = few (c .before .before .args .s .now) (c .scene-in .result) (c .scene-in .ensures) (c .before .before .pre) in omega arith
+-- the scene is small
+small : (c : tie.After-scene-in) → Few (c .scene-in .result)
+small c = let o = c .before .before in few (o .args .s .now) (c .scene-in .result) (c .scene-in .ensures) (o .pre)
 
-mul-result-2 : tie.Need-mul-result-2
-mul-result-2 c = let z = few (c .before .before .args .s .now) (c .scene-in .result) (c .scene-in .ensures) (c .before .before .pre) in omega arith
+mul-figure : tie.Need-mul-figure
+mul-figure c = let z = small c in omega arith
 
-mul-result-3 : tie.Need-mul-result-3
-mul-result-3 c = let z = few (c .before .before .args .s .now) (c .scene-in .result) (c .scene-in .ensures) (c .before .before .pre) in omega arith
-
-add-result : tie.Need-add-result
-add-result c = let z = few (c .before .before .args .s .now) (c .scene-in .result) (c .scene-in .ensures) (c .before .before .pre) in omega arith
-
-mul-result-4 : tie.Need-mul-result-4
-mul-result-4 c = let z = few (c .before .before .args .s .now) (c .scene-in .result) (c .scene-in .ensures) (c .before .before .pre) in omega arith
-
-add-result-2 : tie.Need-add-result-2
-add-result-2 c = let z = few (c .before .before .args .s .now) (c .scene-in .result) (c .scene-in .ensures) (c .before .before .pre) in omega arith
-
-mul-result-5 : tie.Need-mul-result-5
-mul-result-5 c = let z = few (c .before .before .args .s .now) (c .scene-in .result) (c .scene-in .ensures) (c .before .before .pre) in omega arith
-
-add-result-3 : tie.Need-add-result-3
-add-result-3 c = let z = few (c .before .before .args .s .now) (c .scene-in .result) (c .scene-in .ensures) (c .before .before .pre) in omega arith
-
-mul-result-6 : tie.Need-mul-result-6
-mul-result-6 c = let z = few (c .before .before .before .args .s .now) (c .before .scene-in .result) (c .before .scene-in .ensures) (c .before .before .before .pre) in omega arith
-
-add-result-4 : tie.Need-add-result-4
-add-result-4 c = let z = few (c .before .before .before .args .s .now) (c .before .scene-in .result) (c .before .scene-in .ensures) (c .before .before .before .pre) in omega arith
+figure-requires : tie.Need-figure-requires
+figure-requires c κs = let z = small c in ((z .rows, z .unknowns), ((z .bodies, omega arith), z .slopes))
 
 returns : tie.Need-returns
 returns c =
-    let s = c .before .before .before .args .s .now in
-    let r = c .before .scene-in .result in
-    let made = c .before .scene-in .ensures in
-    rw (row-count s r made, unknown-count s r made, made .body-count)
+    let counted = c .before in
+    let s = counted .before .before .args .s .now in
+    let r = counted .scene-in .result in
+    let made = counted .scene-in .ensures in
+    rw (c .figure .ensures, row-count s r made, unknown-count s r made, made .body-count)
 
 pub dof-scratch-spec : {M : Type 1} → statement M
-dof-scratch-spec =
-    tie.close
-    (tie.spec
-    scene-in-requires
-    mul-result
-    mul-result-2
-    mul-result-3
-    add-result
-    mul-result-4
-    add-result-2
-    mul-result-5
-    add-result-3
-    mul-result-6
-    add-result-4
-    returns)
+dof-scratch-spec = tie.close (tie.spec scene-in-requires mul-figure figure-requires returns)
