@@ -26,7 +26,8 @@ use Rattle.relations.specs.Geometry.{Geo, plane, line, point, circle, Pose, pos
 use Rattle.relations.specs.Model.{End, Law, mate, flush, angle, insert, tangent, symmetry, joint}
 use Rattle.relations.specs.Rows.{matePrim, mateRows, flushRows, insertRows, planeGap, planeTangentRows, symmetryRows, formulaRows, isPlane, tangentRows, residual, ground}
 use Rattle.scene.specs.Solve.{isBody, planeBody, names, endPose}
-use Rattle.closeness.specs.RowBound.{UNIT-LIMIT, POSITION-LIMIT, SHEET-LIMIT, TEN-MILLION, upTo, upToV, smallPose, smallGeo, smallEnd, smallLaw, smallRel, exactLaw, unroundedRows, unroundedError, RowBound, ErrorBound}
+use Rattle.records.specs.Limits.{NEAR-ONE, THOUSAND, within, withinV}
+use Rattle.closeness.specs.RowBound.{POSITION-LIMIT, TEN-MILLION, smallPose, smallGeo, smallEnd, smallLaw, smallRel, exactLaw, unroundedRows, unroundedError, RowBound, ErrorBound}
 
 -- ---- from tests to sizes
 
@@ -42,14 +43,14 @@ positive (fin s m e) = cond s false true
 abbrev units : Float → ℕ
 units limit = constBound limit .most
 
-up-to : (limit : Float) → T (positive limit) → (x : Float) → T (upTo limit x) → Small (units limit) x
-unfolding upTo constBound
+up-to : (limit : Float) → T (positive limit) → (x : Float) → T (within limit x) → Small (units limit) x
+unfolding within constBound
 up-to nan p x t = absurd p
 up-to (inf s) p x t = absurd p
 up-to (fin true n d) p x t = absurd p
 up-to (fin false n d) p x t = let h = lt-div-mul-add {a = n * up d * S} {b = down d} (down-pos d) in small-of-le x n d (n * up d * S / down d + 1) t (omega arith)
 
-unit-positive : T (positive UNIT-LIMIT)
+unit-positive : T (positive NEAR-ONE)
 unfolding ofBits
 unit-positive = tt
 
@@ -57,59 +58,59 @@ position-positive : T (positive POSITION-LIMIT)
 unfolding ofBits
 position-positive = tt
 
-sheet-positive : T (positive SHEET-LIMIT)
+sheet-positive : T (positive THOUSAND)
 unfolding ofBits
 sheet-positive = tt
 
 -- ---- inputs as numbers that carry their proof
 
-vector-parts : (limit : Float) (v : Vec Float) → T (upToV limit v) → T (upTo limit (v .x)) × T (upTo limit (v .y)) × T (upTo limit (v .z))
-unfolding upToV
+vector-parts : (limit : Float) (v : Vec Float) → T (withinV limit v) → T (within limit (v .x)) × T (within limit (v .y)) × T (within limit (v .z))
+unfolding withinV
 vector-parts limit v t =
-    let r = and-r (upTo limit (v .x)) _ t in
-    (and-l (upTo limit (v .x)) _ t, and-l (upTo limit (v .y)) _ r, and-r (upTo limit (v .y)) _ r)
+    let r = and-r (within limit (v .x)) _ t in
+    (and-l (within limit (v .x)) _ t, and-l (within limit (v .y)) _ r, and-r (within limit (v .y)) _ r)
 
-pose-parts : (q : Pose Float) → T (smallPose q) → T (upToV UNIT-LIMIT (q .r .r0)) × T (upToV UNIT-LIMIT (q .r .r1)) × T (upToV UNIT-LIMIT (q .r .r2)) × T (upToV POSITION-LIMIT (q .t))
+pose-parts : (q : Pose Float) → T (smallPose q) → T (withinV NEAR-ONE (q .r .r0)) × T (withinV NEAR-ONE (q .r .r1)) × T (withinV NEAR-ONE (q .r .r2)) × T (withinV POSITION-LIMIT (q .t))
 unfolding smallPose
 pose-parts q t =
-    let r = and-r (upToV UNIT-LIMIT (q .r .r0)) _ t in
-    let s = and-r (upToV UNIT-LIMIT (q .r .r1)) _ r in
-    (and-l (upToV UNIT-LIMIT (q .r .r0)) _ t, and-l (upToV UNIT-LIMIT (q .r .r1)) _ r, and-l (upToV UNIT-LIMIT (q .r .r2)) _ s, and-r (upToV UNIT-LIMIT (q .r .r2)) _ s)
+    let r = and-r (withinV NEAR-ONE (q .r .r0)) _ t in
+    let s = and-r (withinV NEAR-ONE (q .r .r1)) _ r in
+    (and-l (withinV NEAR-ONE (q .r .r0)) _ t, and-l (withinV NEAR-ONE (q .r .r1)) _ r, and-l (withinV NEAR-ONE (q .r .r2)) _ s, and-r (withinV NEAR-ONE (q .r .r2)) _ s)
 
-abbrev number : (limit : Float) → T (positive limit) → (x : Float) → T (upTo limit x) → Bounded
+abbrev number : (limit : Float) → T (positive limit) → (x : Float) → T (within limit x) → Bounded
 number limit p x t = input (units limit) x (up-to limit p x t)
 
-abbrev vector : (limit : Float) → T (positive limit) → (v : Vec Float) → T (upToV limit v) → Vec Bounded
+abbrev vector : (limit : Float) → T (positive limit) → (v : Vec Float) → T (withinV limit v) → Vec Bounded
 vector limit p v t =
     let h = vector-parts limit v t in
     record { x = number limit p (v .x) (h .0); y = number limit p (v .y) (h .1); z = number limit p (v .z) (h .2) }
 
-abbrev unit : (v : Vec Float) → T (upToV UNIT-LIMIT v) → Vec Bounded
-unit = vector UNIT-LIMIT unit-positive
+abbrev unit : (v : Vec Float) → T (withinV NEAR-ONE v) → Vec Bounded
+unit = vector NEAR-ONE unit-positive
 
 abbrev posed : (q : Pose Float) → T (smallPose q) → Pose Bounded
 posed q t =
     let h = pose-parts q t in
     record { r = record { r0 = unit (q .r .r0) (h .0); r1 = unit (q .r .r1) (h .1); r2 = unit (q .r .r2) (h .2) }; t = vector POSITION-LIMIT position-positive (q .t) (h .3) }
 
-abbrev sheet : (x : Float) → T (upTo SHEET-LIMIT x) → Bounded
-sheet = number SHEET-LIMIT sheet-positive
+abbrev sheet : (x : Float) → T (within THOUSAND x) → Bounded
+sheet = number THOUSAND sheet-positive
 
 -- `placed`
-abbrev pointAt : (q : Pose Float) → T (smallPose q) → (v : Vec Float) → T (upToV SHEET-LIMIT v) → Vec Bounded
-pointAt q h v t = place bounded (posed q h) (vector SHEET-LIMIT sheet-positive v t)
+abbrev pointAt : (q : Pose Float) → T (smallPose q) → (v : Vec Float) → T (withinV THOUSAND v) → Vec Bounded
+pointAt q h v t = place bounded (posed q h) (vector THOUSAND sheet-positive v t)
 
-abbrev directionAt : (q : Pose Float) → T (smallPose q) → (v : Vec Float) → T (upToV UNIT-LIMIT v) → Vec Bounded
+abbrev directionAt : (q : Pose Float) → T (smallPose q) → (v : Vec Float) → T (withinV NEAR-ONE v) → Vec Bounded
 directionAt q h v t = apply bounded (posed q h .r) (unit v t)
 
 abbrev at : (q : Pose Float) → T (smallPose q) → (g : Geo Float) → T (smallGeo g) → Geo Bounded
 unfolding smallGeo
-at q h (plane p n) t = plane (pointAt q h p (and-l (upToV SHEET-LIMIT p) _ t)) (directionAt q h n (and-r (upToV SHEET-LIMIT p) _ t))
-at q h (line p d) t = line (pointAt q h p (and-l (upToV SHEET-LIMIT p) _ t)) (directionAt q h d (and-r (upToV SHEET-LIMIT p) _ t))
+at q h (plane p n) t = plane (pointAt q h p (and-l (withinV THOUSAND p) _ t)) (directionAt q h n (and-r (withinV THOUSAND p) _ t))
+at q h (line p d) t = line (pointAt q h p (and-l (withinV THOUSAND p) _ t)) (directionAt q h d (and-r (withinV THOUSAND p) _ t))
 at q h (point p) t = point (pointAt q h p t)
 at q h (circle c n r) t =
-    let s = and-r (upToV SHEET-LIMIT c) _ t in
-    circle (pointAt q h c (and-l (upToV SHEET-LIMIT c) _ t)) (directionAt q h n (and-l (upToV UNIT-LIMIT n) _ s)) (sheet r (and-r (upToV UNIT-LIMIT n) _ s))
+    let s = and-r (withinV THOUSAND c) _ t in
+    circle (pointAt q h c (and-l (withinV THOUSAND c) _ t)) (directionAt q h n (and-l (withinV NEAR-ONE n) _ s)) (sheet r (and-r (withinV NEAR-ONE n) _ s))
 
 -- ---- every law and pair
 
@@ -120,11 +121,11 @@ abbrev close : (l : List Bounded) → T (allGood TEN-MILLION l) → Close (map (
 close = all-within TEN-MILLION
 
 module _ (qa qb : Pose Float) (ha : T (smallPose qa)) (hb : T (smallPose qb)) where
-  abbrev mateAt : (off : Float) (p s : Geo Float) → T (upTo SHEET-LIMIT off) → T (smallGeo p) → T (smallGeo s) → List Bounded
+  abbrev mateAt : (off : Float) (p s : Geo Float) → T (within THOUSAND off) → T (smallGeo p) → T (smallGeo s) → List Bounded
   unfolding at matePrim mateRows
   mateAt off p s w h k = mateRows bounded (sheet off w) (matePrim (at qa ha p h)) (matePrim (at qb hb s k))
 
-  mates : (off : Float) (p s : Geo Float) → T (upTo SHEET-LIMIT off) → T (smallGeo p) → T (smallGeo s)
+  mates : (off : Float) (p s : Geo Float) → T (within THOUSAND off) → T (smallGeo p) → T (smallGeo s)
       → Close (mateRows doubles off (matePrim (placed doubles qa p)) (matePrim (placed doubles qb s)))
       (mateRows fractions (fracOf off) (matePrim (placed fractions (poseOf fractions qa) p)) (matePrim (placed fractions (poseOf fractions qb) s)))
   unfolding mateAt placed constBound addBound mulBound ofBits
@@ -145,7 +146,7 @@ module _ (qa qb : Pose Float) (ha : T (smallPose qa)) (hb : T (smallPose qb)) wh
   mates off (circle p n y) (point r) w h k = close (mateAt off (circle p n y) (point r) w h k) tt
   mates off (circle p n y) (circle r m z) w h k = close (mateAt off (circle p n y) (circle r m z) w h k) tt
 
-  flushes : (off : Float) (p s : Geo Float) → T (upTo SHEET-LIMIT off) → T (smallGeo p) → T (smallGeo s)
+  flushes : (off : Float) (p s : Geo Float) → T (within THOUSAND off) → T (smallGeo p) → T (smallGeo s)
       → Close (flushRows doubles off (placed doubles qa p) (placed doubles qb s)) (flushRows fractions (fracOf off) (placed fractions (poseOf fractions qa) p) (placed fractions (poseOf fractions qb) s))
   unfolding at flushRows placed constBound addBound mulBound ofBits
   flushes off (plane p n) (plane r m) w h k = close (flushRows bounded (sheet off w) (at qa ha (plane p n) h) (at qb hb (plane r m) k)) tt
@@ -156,7 +157,7 @@ module _ (qa qb : Pose Float) (ha : T (smallPose qa)) (hb : T (smallPose qb)) wh
   flushes off (point p) s w h k = tt
   flushes off (circle p n y) s w h k = tt
 
-  inserts : (off : Float) (aligned : Bool) (p s : Geo Float) → T (upTo SHEET-LIMIT off) → T (smallGeo p) → T (smallGeo s)
+  inserts : (off : Float) (aligned : Bool) (p s : Geo Float) → T (within THOUSAND off) → T (smallGeo p) → T (smallGeo s)
       → Close (insertRows doubles off aligned (placed doubles qa p) (placed doubles qb s))
       (insertRows fractions (fracOf off) aligned (placed fractions (poseOf fractions qa) p) (placed fractions (poseOf fractions qb) s))
   unfolding at insertRows placed constBound addBound mulBound ofBits
@@ -169,12 +170,12 @@ module _ (qa qb : Pose Float) (ha : T (smallPose qa)) (hb : T (smallPose qb)) wh
   inserts off true (circle p n y) (circle r m z) w h k = close (insertRows bounded (sheet off w) true (at qa ha (circle p n y) h) (at qb hb (circle r m z) k)) tt
   inserts off false (circle p n y) (circle r m z) w h k = close (insertRows bounded (sheet off w) false (at qa ha (circle p n y) h) (at qb hb (circle r m z) k)) tt
 
-  module _ (ra rb : Float) (ka : T (upTo SHEET-LIMIT ra)) (kb : T (upTo SHEET-LIMIT rb)) where
-    abbrev tangentAt : (off : Float) (inside : Bool) (p s : Geo Float) → T (upTo SHEET-LIMIT off) → T (smallGeo p) → T (smallGeo s) → List Bounded
+  module _ (ra rb : Float) (ka : T (within THOUSAND ra)) (kb : T (within THOUSAND rb)) where
+    abbrev tangentAt : (off : Float) (inside : Bool) (p s : Geo Float) → T (within THOUSAND off) → T (smallGeo p) → T (smallGeo s) → List Bounded
     unfolding at planeTangentRows planeGap
     tangentAt off inside p s w h k = planeTangentRows bounded (planeGap bounded (sheet ra ka) (sheet rb kb) (sheet off w) inside) (at qa ha p h) (at qb hb s k)
 
-    tangents : (off : Float) (inside : Bool) (p s : Geo Float) → T (upTo SHEET-LIMIT off) → T (smallGeo p) → T (smallGeo s)
+    tangents : (off : Float) (inside : Bool) (p s : Geo Float) → T (within THOUSAND off) → T (smallGeo p) → T (smallGeo s)
         → Close (planeTangentRows doubles (planeGap doubles ra rb off inside) (placed doubles qa p) (placed doubles qb s))
         (planeTangentRows fractions (planeGap fractions (fracOf ra) (fracOf rb) (fracOf off) inside) (placed fractions (poseOf fractions qa) p) (placed fractions (poseOf fractions qb) s))
     unfolding tangentAt placed constBound addBound mulBound ofBits
@@ -227,7 +228,7 @@ module _ (qa qb : Pose Float) (ha : T (smallPose qa)) (hb : T (smallPose qb)) wh
 
 -- ---- the rows of a relation
 
-end-parts : (e : End) → T (smallEnd e) → T (smallGeo (e .prim)) × T (upTo SHEET-LIMIT (e .radius))
+end-parts : (e : End) → T (smallEnd e) → T (smallGeo (e .prim)) × T (within THOUSAND (e .radius))
 unfolding smallEnd
 end-parts e t = (and-l (smallGeo (e .prim)) _ t, and-r (smallGeo (e .prim)) _ t)
 
@@ -272,7 +273,7 @@ row-bound law a b qa qb qs x w ea eb ha hb hs =
 -- ---- poses by body
 
 pub ground-small : smallPose ground ≡ true
-unfolding smallPose ofBits abs le
+unfolding smallPose within ofBits abs le
 ground-small = refl
 
 module _ (poses : List (Pose Float)) where

@@ -5,73 +5,56 @@ use Prim.Native.Nat.{ℕ, _^_}
 use mathlib.Core.Bool.{Bool, true, false, _&&_, _||_}
 use mathlib.Core.List.{List}
 use lib.ListN.{getD}
-use lib.Ieee.{Float, binary64, le, ofBits}
-use Rattle.numbers.specs.Double.{abs}
+use lib.Ieee.{Float, binary64, ofBits}
 use Rattle.numbers.specs.Frac.{Frac}
 use Rattle.numbers.specs.Ops.{fractions}
 use Rattle.numbers.specs.MaxAbs.{maxAbs, largestQ}
 use Rattle.numbers.specs.Differs.{Differs-by-at-most}
-use Rattle.vectors.specs.Vec.{Vec}
 use Rattle.relations.specs.Geometry.{Geo, plane, line, point, circle, Pose}
 use Rattle.relations.specs.Model.{End, Law, mate, flush, angle, insert, tangent, symmetry, joint, Rel}
 use Rattle.relations.specs.Rows.{isPlane, formulaRows, residual, ground}
+use Rattle.records.specs.Limits.{NEAR-ONE, THOUSAND, within, withinV}
 use Rattle.scene.specs.Solve.{planeBody, names, endPose, rowsAt}
 
--- ---- the limits
+-- ---- the limits, beside those of a sheet's doubles
 
--- 1.01, its nearest double: for the turning entries of a pose, and for directions and the reference
-abbrev pub UNIT-LIMIT : Float
-UNIT-LIMIT = ofBits binary64 0x3FF0_28F5_C28F_5C29
-
--- 4096: for the position entries of a pose
+-- 4096: for the position entries of a pose; its turning entries go by 1.01
 abbrev pub POSITION-LIMIT : Float
 POSITION-LIMIT = ofBits binary64 0x40B0_0000_0000_0000
-
--- 1000: for every other double of a sheet
-abbrev pub SHEET-LIMIT : Float
-SHEET-LIMIT = ofBits binary64 0x408F_4000_0000_0000
 
 -- the bound, 0.0000001, is one over this
 abbrev pub TEN-MILLION : ℕ
 TEN-MILLION = 10 ^ 7
 
--- the comparison of doubles: the magnitude of x is at most the limit; neither a NaN nor an infinity passes
-unfoldable pub upTo : Float → Float → Bool
-upTo limit x = le (abs x) limit
-
-unfoldable pub upToV : Float → Vec Float → Bool
-unfolding upTo
-upToV limit v = upTo limit (v .x) && (upTo limit (v .y) && upTo limit (v .z))
-
 -- ---- poses and relations within them
 
 -- turning entries up to 1.01 and position entries up to 4096 in magnitude
 unfoldable pub smallPose : Pose Float → Bool
-unfolding upToV
-smallPose q = upToV UNIT-LIMIT (q .r .r0) && (upToV UNIT-LIMIT (q .r .r1) && (upToV UNIT-LIMIT (q .r .r2) && upToV POSITION-LIMIT (q .t)))
+unfolding withinV
+smallPose q = withinV NEAR-ONE (q .r .r0) && (withinV NEAR-ONE (q .r .r1) && (withinV NEAR-ONE (q .r .r2) && withinV POSITION-LIMIT (q .t)))
 
 -- directions up to 1.01, points and radii up to 1000
 unfoldable pub smallGeo : Geo Float → Bool
-unfolding upToV
-smallGeo (plane p n) = upToV SHEET-LIMIT p && upToV UNIT-LIMIT n
-smallGeo (line p d) = upToV SHEET-LIMIT p && upToV UNIT-LIMIT d
-smallGeo (point p) = upToV SHEET-LIMIT p
-smallGeo (circle c n r) = upToV SHEET-LIMIT c && (upToV UNIT-LIMIT n && upTo SHEET-LIMIT r)
+unfolding withinV
+smallGeo (plane p n) = withinV THOUSAND p && withinV NEAR-ONE n
+smallGeo (line p d) = withinV THOUSAND p && withinV NEAR-ONE d
+smallGeo (point p) = withinV THOUSAND p
+smallGeo (circle c n r) = withinV THOUSAND c && (withinV NEAR-ONE n && within THOUSAND r)
 
 unfoldable pub smallEnd : End → Bool
 unfolding smallGeo
-smallEnd e = smallGeo (e .prim) && upTo SHEET-LIMIT (e .radius)
+smallEnd e = smallGeo (e .prim) && within THOUSAND (e .radius)
 
 -- offset and angle up to 1000, the reference up to 1.01, symmetry's plane as any end
 unfoldable pub smallLaw : Law → Bool
 unfolding smallEnd
-smallLaw (mate off) = upTo SHEET-LIMIT off
-smallLaw (flush off) = upTo SHEET-LIMIT off
-smallLaw (angle want reference) = upTo SHEET-LIMIT want && upToV UNIT-LIMIT reference
-smallLaw (insert off aligned) = upTo SHEET-LIMIT off
-smallLaw (tangent off inside) = upTo SHEET-LIMIT off
+smallLaw (mate off) = within THOUSAND off
+smallLaw (flush off) = within THOUSAND off
+smallLaw (angle want reference) = within THOUSAND want && withinV NEAR-ONE reference
+smallLaw (insert off aligned) = within THOUSAND off
+smallLaw (tangent off inside) = within THOUSAND off
 smallLaw (symmetry p) = smallEnd p
-smallLaw (joint kind flip off want) = upTo SHEET-LIMIT off && upTo SHEET-LIMIT want
+smallLaw (joint kind flip off want) = within THOUSAND off && within THOUSAND want
 
 -- a relation within the sheet's limits
 unfoldable pub smallRel : Rel → Bool

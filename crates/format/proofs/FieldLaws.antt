@@ -17,10 +17,11 @@ use Rattle.vectors.specs.Vec.{Vec}
 use Rattle.relations.specs.declared.model.JointKind.the-variants.{Ball}
 use Rattle.records.specs.Numbers.{JOINT, SYMMETRY, CIRCLE, lawNumber, jointNumber, primNumber, flagNumber, placeNumber}
 use Rattle.records.specs.Record.{byteAt, u16At, u64At, doubleAt, vecAt, usesJoint, usesFlag, usesPlane, bodyNumberAt, primAt, bodyAt, endAt, lawBy, relAt}
+use Rattle.records.specs.Limits.{within, withinV, THOUSAND, NEAR-ONE}
 use Rattle.records.proofs.NumberLaws.{each-case}
 use Rattle.records.proofs.RecordLaws.{prim-number, kind-number, law-number}
 use Rattle.format.specs.Format.{bodiesOf, relationsOf, bodyStart, relStart}
-use Rattle.format.specs.Faults.{orElse, byteUpTo, within, withinV, THOUSAND, NEAR-ONE, bodyShape, bodyLimits, endShape, endLimits, planeShape, relShape, relNames, relLimits, bodyFault, relFault, headerFault, bodiesFault, relsFault, sheetFault}
+use Rattle.format.specs.Faults.{orElse, byteUpTo, bodyShape, bodyLimits, endShape, endLimits, planeShape, relShape, relNames, relLimits, bodyFault, relFault, headerFault, bodiesFault, relsFault, sheetFault}
 use Rattle.format.proofs.RefusalLaws.{none-of, and-left, and-right}
 use Rattle.format.specs.Fields.{DoubleBack, VecBack, BodyBack, PrimBack, EndBack, LawBack, RelBack}
 

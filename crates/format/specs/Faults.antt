@@ -5,12 +5,10 @@ use mathlib.Core.Bool.{Bool, true, not, _&&_, _||_, cond}
 use mathlib.Core.List.{List}
 use lib.ListN.{length}
 use lib.Dec.{eqb, leb, ltb}
-use lib.Ieee.{Float, binary64, le, ofBits}
-use Rattle.numbers.specs.Double.{abs}
-use Rattle.vectors.specs.Vec.{Vec}
 use Rattle.relations.specs.declared.model.JointKind.the-variants.{Ball}
 use Rattle.records.specs.Numbers.{JOINT, CIRCLE, jointNumber, flagNumber, GROUND}
 use Rattle.records.specs.Record.{byteAt, u16At, u32At, doubleAt, vecAt, zeroBytes, usesOffset, usesAngle, usesReference, usesFlag, usesJoint, usesEndRadius, usesPlane, usesDirection, usesCircleRadius}
+use Rattle.records.specs.Limits.{NEAR-ONE, THOUSAND, within, withinV}
 use Rattle.format.specs.Format.{bodiesOf, relationsOf, bodyStart, relStart}
 
 -- the first of two tests' numbers that is not 0; the second is asked only where the first gives 0
@@ -84,19 +82,6 @@ unfoldable pub relNames : ℕ → List ℕ → ℕ → Bool
 relNames m s r = endNames m s (r + 48) && (endNames m s (r + 120) && (not (usesPlane (byteAt s r)) || endNames m s (r + 192)))
 
 -- ---- 7: doubles within their limits; a NaN is not
-
--- 1.01 for directions, frame axes and the reference; 1000 for all else
-abbrev pub NEAR-ONE : Float
-NEAR-ONE = ofBits binary64 0x3FF0_28F5_C28F_5C29
-
-abbrev pub THOUSAND : Float
-THOUSAND = ofBits binary64 0x408F_4000_0000_0000
-
-unfoldable pub within : Float → Float → Bool
-within limit x = le (abs x) limit
-
-unfoldable pub withinV : Float → Vec Float → Bool
-withinV limit v = within limit (v .x) && (within limit (v .y) && within limit (v .z))
 
 unfoldable pub bodyLimits : List ℕ → ℕ → Bool
 bodyLimits s o =

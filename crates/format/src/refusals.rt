@@ -8,6 +8,7 @@ ghost use mathlib.Core.Path.{_≡_};
 ghost use Prim.Native.Nat.{_+_, _*_, _≤_, _<_};
 ghost use lib.ListN.{length};
 ghost use Rattle.records.specs.Record as fields;
+ghost use Rattle.records.specs.Limits as limits;
 ghost use Rattle.format.specs.Faults as spec;
 
 // The limits of a double: directions, frame axes and references; all others.
@@ -239,21 +240,21 @@ fn rel_names(m: usize, s: &[u8], r: usize) -> bool
 
 // A NaN is within no limit.
 fn within(limit: f64, x: f64) -> bool
-    ensures { λ r. ⌜ r ≡ spec.within limit x ⌝ }
+    ensures { λ r. ⌜ r ≡ limits.within limit x ⌝ }
 {
     numbers::abs(x) <= limit
 }
 
 fn double_within(limit: f64, s: &[u8], o: usize) -> bool
     requires { ⌜ o + 8 ≤ length (now s) ⌝ }
-    ensures { λ r. ⌜ r ≡ spec.within limit (fields.doubleAt (now (s .entry)) o) ⌝ }
+    ensures { λ r. ⌜ r ≡ limits.within limit (fields.doubleAt (now (s .entry)) o) ⌝ }
 {
     within(limit, double_at(s, o))
 }
 
 fn vec_within(limit: f64, s: &[u8], o: usize) -> bool
     requires { ⌜ o + 24 ≤ length (now s) ⌝ }
-    ensures { λ r. ⌜ r ≡ spec.withinV limit (fields.vecAt (now (s .entry)) o) ⌝ }
+    ensures { λ r. ⌜ r ≡ limits.withinV limit (fields.vecAt (now (s .entry)) o) ⌝ }
 {
     let x = double_within(limit, s, o);
     let y = double_within(limit, s, o + 8);

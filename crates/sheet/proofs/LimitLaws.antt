@@ -15,13 +15,14 @@ use Rattle.vectors.specs.Vec.{Vec}
 use Rattle.relations.specs.Model.{Rel}
 use Rattle.records.specs.Numbers.{lawNumber, primNumber}
 use Rattle.records.specs.Record.{byteAt, doubleAt, vecAt, primAt, endAt, lawBy, relAt}
+use Rattle.records.specs.Limits.{NEAR-ONE, THOUSAND, within, withinV}
 use Rattle.records.proofs.NumberLaws.{each-case}
 use Rattle.scene.specs.Scene.{sceneIn}
-use Rattle.closeness.specs.RowBound.{SHEET-LIMIT, UNIT-LIMIT, upTo, upToV, smallGeo, smallEnd, smallLaw, smallRel}
+use Rattle.closeness.specs.RowBound.{smallGeo, smallEnd, smallLaw, smallRel}
 use Rattle.least_squares.proofs.TableLaws.{length-listOf, getD-listOf}
 use Rattle.format.specs.Format.{bodiesOf, relationsOf, relStart}
 use Rattle.refusals.specs.SceneAt.{sceneAt}
-use Rattle.format.specs.Faults.{NEAR-ONE, THOUSAND, orElse, within, withinV, endLimits, relShape, relNames, relLimits, headerFault, bodiesFault, relFault, relsFault, sheetFault}
+use Rattle.format.specs.Faults.{orElse, endLimits, relShape, relNames, relLimits, headerFault, bodiesFault, relFault, relsFault, sheetFault}
 use Rattle.format.proofs.RefusalLaws.{none-of}
 
 -- ---- from the tests to the limits of the row bound
@@ -30,19 +31,11 @@ both : (a b : Bool) → T a → T b → T (a && b)
 both true b s t = t
 both false b s t = absurd s
 
-number-small : (limit x : Float) → T (within limit x) → T (upTo limit x)
-unfolding within upTo
-number-small limit x t = t
-
-vector-small : (limit : Float) (v : Vec Float) → T (withinV limit v) → T (upToV limit v)
-unfolding withinV within upToV
-vector-small limit v t = t
-
-prim-small : (n : ℕ) (p d : Vec Float) (r : Float) → T (upToV SHEET-LIMIT p) → T (upToV UNIT-LIMIT d) → T (upTo SHEET-LIMIT r) → T (smallGeo (primAt n p d r))
+prim-small : (n : ℕ) (p d : Vec Float) (r : Float) → T (withinV THOUSAND p) → T (withinV NEAR-ONE d) → T (within THOUSAND r) → T (smallGeo (primAt n p d r))
 unfolding primAt smallGeo
 prim-small n p d r h k l =
-    let two = both (upToV SHEET-LIMIT p) (upToV UNIT-LIMIT d) h k in
-    let three = both (upToV SHEET-LIMIT p) _ h (both (upToV UNIT-LIMIT d) (upTo SHEET-LIMIT r) k l) in
+    let two = both (withinV THOUSAND p) (withinV NEAR-ONE d) h k in
+    let three = both (withinV THOUSAND p) _ h (both (withinV NEAR-ONE d) (within THOUSAND r) k l) in
     each-case primNumber n (λ g. T (smallGeo g)) _ _ ((λ q. two), ((λ q. two), ((λ q. h), three)))
 
 end-small : (s : List ℕ) (e : ℕ) → T (endLimits s e) → T (smallEnd (endAt s e))
@@ -50,19 +43,19 @@ unfolding endLimits smallEnd endAt
 end-small s e t =
     let t1 = and-r (withinV THOUSAND (vecAt s (e + 8))) _ t in
     let t2 = and-r (withinV NEAR-ONE (vecAt s (e + 32))) _ t1 in
-    both (smallGeo (endAt s e .prim)) (upTo SHEET-LIMIT (doubleAt s (e + 64)))
-    (prim-small (byteAt s e) (vecAt s (e + 8)) (vecAt s (e + 32)) (doubleAt s (e + 56)) (vector-small THOUSAND (vecAt s (e + 8)) (and-l (withinV THOUSAND (vecAt s (e + 8))) _ t))
-    (vector-small NEAR-ONE (vecAt s (e + 32)) (and-l (withinV NEAR-ONE (vecAt s (e + 32))) _ t1))
-    (number-small THOUSAND (doubleAt s (e + 56)) (and-l (within THOUSAND (doubleAt s (e + 56))) _ t2)))
-    (number-small THOUSAND (doubleAt s (e + 64)) (and-r (within THOUSAND (doubleAt s (e + 56))) _ t2))
+    both (smallGeo (endAt s e .prim)) (within THOUSAND (doubleAt s (e + 64)))
+    (prim-small (byteAt s e) (vecAt s (e + 8)) (vecAt s (e + 32)) (doubleAt s (e + 56)) (and-l (withinV THOUSAND (vecAt s (e + 8))) _ t)
+    (and-l (withinV NEAR-ONE (vecAt s (e + 32))) _ t1)
+    (and-l (within THOUSAND (doubleAt s (e + 56))) _ t2))
+    (and-r (within THOUSAND (doubleAt s (e + 56))) _ t2)
 
 module _ (s : List ℕ) (r : ℕ) where
-  law-small : (n : ℕ) → T (upTo SHEET-LIMIT (doubleAt s (r + 8))) → T (upTo SHEET-LIMIT (doubleAt s (r + 16))) → T (upToV UNIT-LIMIT (vecAt s (r + 24))) → T (smallEnd (endAt s (r + 192)))
+  law-small : (n : ℕ) → T (within THOUSAND (doubleAt s (r + 8))) → T (within THOUSAND (doubleAt s (r + 16))) → T (withinV NEAR-ONE (vecAt s (r + 24))) → T (smallEnd (endAt s (r + 192)))
       → T (smallLaw (lawBy n s r))
   unfolding lawBy smallLaw
   law-small n off want reference p =
-      let turned = both (upTo SHEET-LIMIT (doubleAt s (r + 16))) (upToV UNIT-LIMIT (vecAt s (r + 24))) want reference in
-      let joined = both (upTo SHEET-LIMIT (doubleAt s (r + 8))) (upTo SHEET-LIMIT (doubleAt s (r + 16))) off want in
+      let turned = both (within THOUSAND (doubleAt s (r + 16))) (withinV NEAR-ONE (vecAt s (r + 24))) want reference in
+      let joined = both (within THOUSAND (doubleAt s (r + 8))) (within THOUSAND (doubleAt s (r + 16))) off want in
       each-case lawNumber n (λ l. T (smallLaw l)) _ _ ((λ q. off), ((λ q. off), ((λ q. turned), ((λ q. off), ((λ q. off), ((λ q. p), joined))))))
 
   pub rel-small : relLimits s r ≡ true → smallRel (relAt s r) ≡ true
@@ -75,9 +68,9 @@ module _ (s : List ℕ) (r : ℕ) where
       let t4 = and-r (endLimits s (r + 48)) _ t3 in
       is-true (smallRel (relAt s r))
       (both (smallLaw (lawBy (byteAt s r) s r)) _
-      (law-small (byteAt s r) (number-small THOUSAND (doubleAt s (r + 8)) (and-l (within THOUSAND (doubleAt s (r + 8))) _ t))
-      (number-small THOUSAND (doubleAt s (r + 16)) (and-l (within THOUSAND (doubleAt s (r + 16))) _ t1))
-      (vector-small NEAR-ONE (vecAt s (r + 24)) (and-l (withinV NEAR-ONE (vecAt s (r + 24))) _ t2)) (end-small s (r + 192) (and-r (endLimits s (r + 120)) _ t4)))
+      (law-small (byteAt s r) (and-l (within THOUSAND (doubleAt s (r + 8))) _ t)
+      (and-l (within THOUSAND (doubleAt s (r + 16))) _ t1)
+      (and-l (withinV NEAR-ONE (vecAt s (r + 24))) _ t2) (end-small s (r + 192) (and-r (endLimits s (r + 120)) _ t4)))
       (both (smallEnd (endAt s (r + 48))) (smallEnd (endAt s (r + 120))) (end-small s (r + 48) (and-l (endLimits s (r + 48)) _ t3)) (end-small s (r + 120) (and-l (endLimits s (r + 120)) _ t4))))
 
 -- ---- every relation of the sheet

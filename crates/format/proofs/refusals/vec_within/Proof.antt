@@ -1,5 +1,5 @@
 -- `format::refusals::vec_within` meets its contract. Assumes nothing.
-use Rattle.format.specs.Faults.{withinV}
+use Rattle.records.specs.Limits.{withinV}
 use borrow.Author.Needs.{needs}
 use Rattle.format.proofs.refusals.vec_within.Statement.{statement}
 use Rattle.format.proofs.refusals.vec_within.Tie as tie

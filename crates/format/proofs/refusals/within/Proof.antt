@@ -1,5 +1,5 @@
 -- `format::refusals::within` meets its contract. Assumes nothing.
-use Rattle.format.specs.Faults.{within}
+use Rattle.records.specs.Limits.{within}
 use borrow.Author.Needs.{needs}
 use Rattle.format.proofs.refusals.within.Statement.{statement}
 use Rattle.format.proofs.refusals.within.Tie as tie
