@@ -1,4 +1,4 @@
--- `format::refusals::rel_shape` meets its contract. Assumes nothing.
+-- `format::refusals::rel_shape`: each test of the definition is one call, in the definition's order; the calls' promises are put in from the last to the first. Assumes nothing.
 use Rattle.format.specs.Faults.{relShape}
 use borrow.Author.Needs.{needs}
 use Rattle.format.proofs.refusals.rel_shape.Statement.{statement}
@@ -84,7 +84,65 @@ plane-shape-requires c κs = search needs
 
 returns : tie.Need-returns
 unfolding relShape
-returns c = rw (c .plane-shape .ensures, c .before .end-shape2 .ensures, c .before .before .end-shape .ensures, c .before .before .before .used-or-zero3 .ensures, c .before .before .before .before .uses-reference .ensures, c .before .before .before .before .before .used-or-zero2 .ensures, c .before .before .before .before .before .before .uses-angle .ensures, c .before .before .before .before .before .before .before .used-or-zero .ensures, c .before .before .before .before .before .before .before .before .uses-offset .ensures, c .before .before .before .before .before .before .before .before .before .zero-bytes .ensures, c .before .before .before .before .before .before .before .before .before .before .byte-up-to2 .ensures, c .before .before .before .before .before .before .before .before .before .before .before .before .uses-flag .ensures, c .before .before .before .before .before .before .before .before .before .before .before .before .before .byte-up-to .ensures, c .before .before .before .before .before .before .before .before .before .before .before .before .before .before .before .uses-joint .ensures)
+returns c =
+    let b = c .before in
+    let a = b .before in
+    let reference = a .before in
+    let uses-reference = reference .before in
+    let angle = uses-reference .before in
+    let uses-angle = angle .before in
+    let offset = uses-angle .before in
+    let uses-offset = offset .before in
+    let zeros = uses-offset .before in
+    let flag = zeros .before in
+    let uses-flag = flag .before .before in
+    let joint = uses-flag .before in
+    let uses-joint = joint .before .before in
+    rw (
+      c .plane-shape .ensures,
+      b .end-shape2 .ensures,
+      a .end-shape .ensures,
+      reference .used-or-zero3 .ensures,
+      uses-reference .uses-reference .ensures,
+      angle .used-or-zero2 .ensures,
+      uses-angle .uses-angle .ensures,
+      offset .used-or-zero .ensures,
+      uses-offset .uses-offset .ensures,
+      zeros .zero-bytes .ensures,
+      flag .byte-up-to2 .ensures,
+      uses-flag .uses-flag .ensures,
+      joint .byte-up-to .ensures,
+      uses-joint .uses-joint .ensures,
+    )
 
 pub rel-shape-spec : {M : Type 1} → statement M
-rel-shape-spec = tie.close (tie.spec shared-slice-read-law uses-joint-requires add-byte-up-to shared-slice-read-byte-up-to byte-up-to-requires uses-flag-requires add-byte-up-to-2 shared-slice-read-byte-up-to-2 byte-up-to-requires-2 add-zero-bytes zero-bytes-requires uses-offset-requires add-used-or-zero used-or-zero-requires uses-angle-requires add-used-or-zero-2 used-or-zero-requires-2 uses-reference-requires add-used-or-zero-3 used-or-zero-requires-3 add-end-shape end-shape-requires add-end-shape-2 end-shape-requires-2 add-plane-shape plane-shape-requires returns)
+rel-shape-spec =
+    tie.close
+    (tie.spec
+    shared-slice-read-law
+    uses-joint-requires
+    add-byte-up-to
+    shared-slice-read-byte-up-to
+    byte-up-to-requires
+    uses-flag-requires
+    add-byte-up-to-2
+    shared-slice-read-byte-up-to-2
+    byte-up-to-requires-2
+    add-zero-bytes
+    zero-bytes-requires
+    uses-offset-requires
+    add-used-or-zero
+    used-or-zero-requires
+    uses-angle-requires
+    add-used-or-zero-2
+    used-or-zero-requires-2
+    uses-reference-requires
+    add-used-or-zero-3
+    used-or-zero-requires-3
+    add-end-shape
+    end-shape-requires
+    add-end-shape-2
+    end-shape-requires-2
+    add-plane-shape
+    plane-shape-requires
+    returns)

@@ -1,4 +1,5 @@
--- `solve_dense` is `solveDense` of the matrix and the right side that memory holds, by the promises of its steps. Assumes nothing.
+-- `solve_dense` is `solveDense` of the matrix and the right side that memory holds: the scale is the definition's (`scaled`), and where elimination reaches an end, so does the
+-- definition's; from there the answer is the back substitution's. Assumes nothing.
 use mathlib.Core.Path.{_≡_, _∙_}
 use Prim.Native.Nat.{_*_}
 use native.Mathlib.Omega.{arith}
@@ -20,6 +21,12 @@ largest-requires c κs = search needs
 max-requires : tie.Need-max-requires
 max-requires c κs = search needs
 
+-- the scale of the matrix at entry
+scaled : (c : tie.After-max) → let g = c .before .before .before .before .args in c .max .result ≡ scaleOf (part (g .s .now) 0 (g .n * g .n))
+scaled c =
+    let g = c .before .before .before .before .args in
+    c .max .ensures ∙ rw (c .before .largest .ensures) (scale-front (g .s .now) (g .n) (omega arith))
+
 eliminate-requires : tie.Need-eliminate-requires
 eliminate-requires c κs = search needs
 
@@ -28,12 +35,13 @@ same-length c = search needs
 
 returns : tie.Need-returns
 returns c =
-    let a = c .before .before .before .before .before .before .before .before .before .args in
-    let x = c .before .before .before .eliminate in
-    let m = c .before .before .before .before .before .max in
-    let q : m .result ≡ scaleOf (part (a .s .now) 0 (a .n * a .n)) = m .ensures ∙ rw (c .before .before .before .before .before .before .largest .ensures) (scale-front (a .s .now) (a .n) (omega arith)) in
+    let gone = c .before .before .before in
+    let scale = gone .before .before in
+    let g = scale .before .before .before .before .args in
+    let x = gone .eliminate in
     let ok = not-true (x .result) (c .if1 .taken) in
-    dense (a .s .now) _ (a .n) _ (no-system (a .s .now) (a .n) (m .result) q (reached-none (a .s .now) _ (a .n) _ (x .result) ok (x .ensures))) (x .ensures .kept)
+    let none = reached-none (g .s .now) _ (g .n) _ (x .result) ok (x .ensures) in
+    dense (g .s .now) _ (g .n) _ (no-system (g .s .now) (g .n) (scale .max .result) (scaled scale) none) (x .ensures .kept)
 
 back-requires : tie.Need-back-requires
 back-requires c κs = search needs
@@ -49,15 +57,18 @@ same-length-2 c = search needs
 
 returns-2 : tie.Need-returns-2
 returns-2 c =
-    let a = c .before .before .before .before .before .before .before .before .before .before .before .before .before .before .before .args in
-    let x = c .before .before .before .before .before .before .before .before .before .eliminate in
-    let m = c .before .before .before .before .before .before .before .before .before .before .before .max in
-    let q : m .result ≡ scaleOf (part (a .s .now) 0 (a .n * a .n)) = m .ensures ∙ rw (c .before .before .before .before .before .before .before .before .before .before .before .before .largest .ensures) (scale-front (a .s .now) (a .n) (omega arith)) in
-    let ok = not-false (x .result) (c .before .before .before .before .before .before .if1 .left) in
-    let b = c .before .before .before .before .back .ensures in
-    dense (a .s .now) _ (a .n) (c .all-finite .result)
-    (answered (a .s .now) (a .n) (m .result) q _ _ (c .all-finite .result) (reached-some (a .s .now) _ (a .n) _ (x .result) ok (x .ensures)) (b .system) (c .all-finite .ensures))
-    (kept-trans (a .s .now) _ _ 0 _ (x .ensures .kept) (b .kept))
+    let filled = c .before .before .before .before in
+    let reached = filled .before .before in
+    let gone = reached .before .before .before in
+    let scale = gone .before .before in
+    let g = scale .before .before .before .before .args in
+    let x = gone .eliminate in
+    let b = filled .back .ensures in
+    let ok = not-false (x .result) (reached .if1 .left) in
+    let some = reached-some (g .s .now) _ (g .n) _ (x .result) ok (x .ensures) in
+    dense (g .s .now) _ (g .n) (c .all-finite .result)
+    (answered (g .s .now) (g .n) (scale .max .result) (scaled scale) _ _ (c .all-finite .result) some (b .system) (c .all-finite .ensures))
+    (kept-trans (g .s .now) _ _ 0 _ (x .ensures .kept) (b .kept))
 
 pub solve-dense-spec : {M : Type 1} → statement M
 solve-dense-spec =

@@ -1,4 +1,5 @@
--- `placement::solve::solved` meets its contract. Assumes nothing.
+-- `placement::solve::solved`: the weights and a start of zeros are written and the first run is made. What it leaves is one fact (`begun`); by it the first run is all where it
+-- converged or nothing moves, and else the retry decides. Assumes nothing.
 use mathlib.Core.Path.{_∙_}
 use borrow.Author.Needs.{needs}
 use Rattle.relations.specs.Model.{bodyNumber}
@@ -16,47 +17,61 @@ put-start-requires c κs = search needs
 
 run-requires : tie.Need-run-requires
 run-requires c κs =
-    let f = c .before .before .before .before .before .before .before .before .before .before .before .pre in
-    (f .0, (arranged-same (c .before .before .before .put-start .ensures .kept .size ∙ c .before .before .before .before .before .before .before .inverse-weights .ensures .kept .size) (f .1 .0), f .1 .1))
+    let started = c .before .before .before in
+    let weighed = started .before .before .before .before in
+    let o = weighed .before .before .before .before in
+    (o .pre .0, (arranged-same (started .put-start .ensures .kept .size ∙ weighed .inverse-weights .ensures .kept .size) (o .pre .1 .0), o .pre .1 .1))
 
--- the first run
+-- what the first run leaves, from the scratch at entry
 begun : (c : tie.After-run)
     → let g = c .before .before .before .before .before .before .before .before .before .before .before .before .args in
     Begun (sceneOf (g .sheet .now) (g .scene)) (g .scene) (g .p) (bodyNumber (g .drag)) (g .s .now) (c .run .last .1 .1 .0) (c .run .result .converged)
 begun c =
-    let g = c .before .before .before .before .before .before .before .before .before .before .before .before .args in
-    begun-is (sceneOf (g .sheet .now) (g .scene)) (g .scene) (g .p) (bodyNumber (g .drag)) (g .s .now) _ _ _ _ (c .before .before .before .before .before .before .before .before .before .before .before .before .pre .0 .unknown-count) (c .before .before .before .before .before .before .before .before .before .before .before .before .pre .1 .0) (c .before .before .before .before .before .before .before .before .inverse-weights .ensures) (c .before .before .before .before .put-start .ensures) (c .run .ensures)
+    let started = c .before .before .before .before in
+    let weighed = started .before .before .before .before in
+    let o = weighed .before .before .before .before in
+    let g = o .args in
+    begun-is (sceneOf (g .sheet .now) (g .scene)) (g .scene) (g .p) (bodyNumber (g .drag)) (g .s .now) _ _ _ _ (o .pre .0 .unknown-count) (o .pre .1 .0)
+    (weighed .inverse-weights .ensures)
+    (started .put-start .ensures)
+    (c .run .ensures)
 
 same-length : tie.Need-same-length
 same-length c = search needs
 
 returns : tie.Need-returns
 returns c =
-    first-converged _ _ _ _ _ _ _ (c .before .before .before .before .before .before .before .before .before .before .before .before .before .before .before .pre .0 .unknown-count) (begun (c .before .before .before)) (c .if1 .taken)
+    let ran = c .before .before .before in
+    let o = ran .before .before .before .before .before .before .before .before .before .before .before .before in
+    first-converged _ _ _ _ _ _ _ (o .pre .0 .unknown-count) (begun ran) (c .if1 .taken)
 
 same-length-2 : tie.Need-same-length-2
 same-length-2 c = search needs
 
 returns-2 : tie.Need-returns-2
 returns-2 c =
-    first-still _ _ _ _ _ _ _ (c .before .before .before .before .before .before .before .before .before .before .before .before .before .before .before .before .pre .0 .unknown-count) (begun (c .before .before .before .before)) (c .before .if1 .left) (c .if2 .taken)
+    let failed = c .before in
+    let ran = failed .before .before .before in
+    let o = ran .before .before .before .before .before .before .before .before .before .before .before .before in
+    first-still _ _ _ _ _ _ _ (o .pre .0 .unknown-count) (begun ran) (failed .if1 .left) (c .if2 .taken)
 
 retry-requires : tie.Need-retry-requires
 retry-requires c κs =
-    let f = c .before .before .before .before .before .before .before .before .before .before .before .before .before .before .before .before .before .pre in (
-      f .0,
-      (
-        arranged-same (begun (c .before .before .before .before .before) .size) (f .1 .0),
-        f .1 .1,
-      ),
-    )
+    let ran = c .before .before .before .before .before in
+    let o = ran .before .before .before .before .before .before .before .before .before .before .before .before in
+    (o .pre .0, (arranged-same (begun ran .size) (o .pre .1 .0), o .pre .1 .1))
 
 same-length-3 : tie.Need-same-length-3
 same-length-3 c = search needs
 
 returns-3 : tie.Need-returns-3
 returns-3 c =
-    twice _ _ _ _ _ _ _ (c .before .before .before .before .before .before .before .before .before .before .before .before .before .before .before .before .before .before .before .before .pre .0 .unknown-count) (begun (c .before .before .before .before .before .before .before .before)) _ _ (c .before .before .before .before .before .if1 .left) (c .before .before .before .before .if2 .left) (c .before .before .retry .ensures)
+    let retried = c .before .before in
+    let free = retried .before .before in
+    let failed = free .before in
+    let ran = failed .before .before .before in
+    let o = ran .before .before .before .before .before .before .before .before .before .before .before .before in
+    twice _ _ _ _ _ _ _ (o .pre .0 .unknown-count) (begun ran) _ _ (failed .if1 .left) (free .if2 .left) (retried .retry .ensures)
 
 pub solved-spec : {M : Type 1} → statement M
 solved-spec =

@@ -1,9 +1,15 @@
--- `refusals::lent::solve_fault` meets its contract. Assumes nothing.
-use mathlib.Core.Path.{sym, _∙_}
+-- `refusals::lent::solve_fault`: the tests in their order. A sheet that passes has a header, so its counts can be read (`passed`); with no fault of the sheet or the drag the
+-- number is that of what is lent (`lent`), and the counts read are the sheet's (`counts`). Assumes nothing.
+use mathlib.Core.Bool.{true}
+use mathlib.Core.Path.{_≡_, sym, _∙_}
+use Prim.Native.Nat.{ℕ}
 use native.Mathlib.Omega.{arith}
 use borrow.Author.Needs.{needs}
+use Rattle.format.specs.Format.{bodiesOf, relationsOf}
+use Rattle.format.specs.Faults.{sheetFault}
 use Rattle.format.proofs.RefusalLaws.{sheet-passes}
-use Rattle.refusals.proofs.LentLaws.{solve-first, solve-drag, solve-lent, slice-short, scratch-short, all-lent, poses-short, frames-short, errors-short, all-long}
+use Rattle.refusals.specs.Refusals.{solveScratch, solveFault}
+use Rattle.refusals.proofs.LentLaws.{lentFault, solveLong, solve-first, solve-drag, solve-lent, slice-short, scratch-short, all-lent, poses-short, frames-short, errors-short, all-long}
 use Rattle.refusals.proofs.lent.solve_fault.Statement.{statement}
 use Rattle.refusals.proofs.lent.solve_fault.Tie as tie
 
@@ -13,78 +19,108 @@ sheet-fault-requires c κs = search needs
 returns : tie.Need-returns
 returns c = solve-first (c .before .before .before .args .sheet .now) _ _ _ _ _ _ (c .before .sheet-fault .ensures) (c .if1 .taken)
 
+-- no test of the sheet refuses it
+passed : (c : tie.Else1) → sheetFault (c .before .before .before .args .sheet .now) ≡ 0
+passed c = sym (c .before .sheet-fault .ensures) ∙ c .if1 .left
+
 drag-fault-requires : tie.Need-drag-fault-requires
-drag-fault-requires c κs = sym (c .before .sheet-fault .ensures) ∙ c .if1 .left
+drag-fault-requires c κs = passed c
 
 returns-2 : tie.Need-returns-2
-returns-2 c = solve-drag (c .before .before .before .before .before .args .sheet .now) _ _ _ _ _ _ _ (c .before .before .before .sheet-fault .ensures) (c .before .before .if1 .left) (c .before .drag-fault .ensures) (c .if2 .taken)
+returns-2 c =
+    let sound = c .before .before in
+    let tested = sound .before in
+    solve-drag (tested .before .before .args .sheet .now) _ _ _ _ _ _ _ (tested .sheet-fault .ensures) (sound .if1 .left) (c .before .drag-fault .ensures) (c .if2 .taken)
 
 u16-at-requires : tie.Need-u16-at-requires
-u16-at-requires c κs = let z = sheet-passes (c .before .before .before .before .before .args .sheet .now) (sym (c .before .before .before .sheet-fault .ensures) ∙ c .before .before .if1 .left) .header in omega arith
+u16-at-requires c κs =
+    let sound = c .before .before in
+    let z = sheet-passes (sound .before .before .before .args .sheet .now) (passed sound) .header in
+    omega arith
 
 u16-at-requires-2 : tie.Need-u16-at-requires-2
-u16-at-requires-2 c κs = let z = sheet-passes (c .before .before .before .before .before .before .args .sheet .now) (sym (c .before .before .before .before .sheet-fault .ensures) ∙ c .before .before .before .if1 .left) .header in omega arith
+u16-at-requires-2 c κs =
+    let sound = c .before .before .before in
+    let z = sheet-passes (sound .before .before .before .args .sheet .now) (passed sound) .header in
+    omega arith
+
+-- the counts read are the sheet's
+counts : (c : tie.After-u16-at2)
+    → let s = c .before .before .before .before .before .before .before .args .sheet .now in
+    (c .before .u16-at .result ≡ bodiesOf s) × (c .u16-at2 .result ≡ relationsOf s)
+counts c = (c .before .u16-at .ensures .0, c .u16-at2 .ensures .0)
+
+-- from here on the number is that of what is lent
+lent : (c : tie.After-u16-at2) (w : ℕ)
+    → let g = c .before .before .before .before .before .before .before .args in
+    let s = g .sheet .now in
+    w ≡ lentFault (solveLong s (g .poses) (g .frames) (g .errors)) (solveScratch s) (g .scratch)
+    → w ≡ solveFault s (g .drag) (g .scratch) (g .poses) (g .frames) (g .errors)
+lent c w h =
+    let undragged = c .before .before in
+    let drag = undragged .before in
+    let sound = drag .before in
+    let tested = sound .before in
+    solve-lent (tested .before .before .args .sheet .now) _ _ _ _ _ _ _ w (tested .sheet-fault .ensures) (sound .if1 .left) (drag .drag-fault .ensures) (undragged .if2 .left) h
 
 mul-if3 : tie.Need-mul-if3
 mul-if3 c = search needs
 
 returns-3 : tie.Need-returns-3
 returns-3 c =
-    let s = c .before .before .before .before .before .before .before .before .args .sheet .now in
-    let m = c .before .before .u16-at .ensures .0 in
-    let k = c .before .u16-at2 .ensures .0 in
+    let read = c .before in
+    let s = read .before .before .before .before .before .before .before .args .sheet .now in
+    let n = counts read in
     let p = c .if3 .taken in
-    solve-lent s _ _ _ _ _ _ _ _ (c .before .before .before .before .before .before .sheet-fault .ensures) (c .before .before .before .before .before .if1 .left) (c .before .before .before .before .drag-fault .ensures) (c .before .before .before .if2 .left)
-    (slice-short _ _ _ (poses-short s _ _ _ (omega arith)))
+    lent read 10 (slice-short _ _ _ (poses-short s _ _ _ (omega arith)))
 
 mul-if4 : tie.Need-mul-if4
 mul-if4 c = search needs
 
 returns-4 : tie.Need-returns-4
 returns-4 c =
-    let s = c .before .before .before .before .before .before .before .before .before .args .sheet .now in
-    let m = c .before .before .before .u16-at .ensures .0 in
-    let k = c .before .before .u16-at2 .ensures .0 in
+    let read = c .before .before in
+    let s = read .before .before .before .before .before .before .before .args .sheet .now in
+    let n = counts read in
     let p = c .before .if3 .left in
     let f = c .if4 .taken in
-    solve-lent s _ _ _ _ _ _ _ _ (c .before .before .before .before .before .before .before .sheet-fault .ensures) (c .before .before .before .before .before .before .if1 .left) (c .before .before .before .before .before .drag-fault .ensures) (c .before .before .before .before .if2 .left)
-    (slice-short _ _ _ (frames-short s _ _ _ (omega arith) (omega arith)))
+    lent read 10 (slice-short _ _ _ (frames-short s _ _ _ (omega arith) (omega arith)))
 
 returns-5 : tie.Need-returns-5
 returns-5 c =
-    let s = c .before .before .before .before .before .before .before .before .before .before .args .sheet .now in
-    let m = c .before .before .before .before .u16-at .ensures .0 in
-    let k = c .before .before .before .u16-at2 .ensures .0 in
+    let read = c .before .before .before in
+    let s = read .before .before .before .before .before .before .before .args .sheet .now in
+    let n = counts read in
     let p = c .before .before .if3 .left in
     let f = c .before .if4 .left in
     let e = c .if5 .taken in
-    solve-lent s _ _ _ _ _ _ _ _ (c .before .before .before .before .before .before .before .before .sheet-fault .ensures) (c .before .before .before .before .before .before .before .if1 .left) (c .before .before .before .before .before .before .drag-fault .ensures) (c .before .before .before .before .before .if2 .left)
-    (slice-short _ _ _ (errors-short s _ _ _ (omega arith) (omega arith) (omega arith)))
+    lent read 10 (slice-short _ _ _ (errors-short s _ _ _ (omega arith) (omega arith) (omega arith)))
 
 solve-scratch-requires : tie.Need-solve-scratch-requires
-solve-scratch-requires c κs = sym (c .before .before .before .before .before .before .before .before .sheet-fault .ensures) ∙ c .before .before .before .before .before .before .before .if1 .left
+solve-scratch-requires c κs = passed (c .before .before .before .before .before .before .before)
+
+-- every slice is long enough
+long : (c : tie.After-solve-scratch)
+    → let g = c .before .before .before .before .before .before .before .before .before .before .before .args in
+    solveLong (g .sheet .now) (g .poses) (g .frames) (g .errors) ≡ true
+long c =
+    let read = c .before .before .before .before in
+    let s = read .before .before .before .before .before .before .before .args .sheet .now in
+    let n = counts read in
+    let p = c .before .before .before .if3 .left in
+    let f = c .before .before .if4 .left in
+    let e = c .before .if5 .left in
+    all-long s _ _ _ (omega arith) (omega arith) (omega arith)
 
 returns-6 : tie.Need-returns-6
 returns-6 c =
-    let s = c .before .before .before .before .before .before .before .before .before .before .before .before .args .sheet .now in
-    let m = c .before .before .before .before .before .before .u16-at .ensures .0 in
-    let k = c .before .before .before .before .before .u16-at2 .ensures .0 in
-    let p = c .before .before .before .before .if3 .left in
-    let f = c .before .before .before .if4 .left in
-    let e = c .before .before .if5 .left in
-    solve-lent s _ _ _ _ _ _ _ _ (c .before .before .before .before .before .before .before .before .before .before .sheet-fault .ensures) (c .before .before .before .before .before .before .before .before .before .if1 .left) (c .before .before .before .before .before .before .before .before .drag-fault .ensures) (c .before .before .before .before .before .before .before .if2 .left)
-    (scratch-short _ _ _ _ (all-long s _ _ _ (omega arith) (omega arith) (omega arith)) (c .before .solve-scratch .ensures) (c .if6 .taken))
+    let figure = c .before in
+    lent (figure .before .before .before .before) 9 (scratch-short _ _ _ _ (long figure) (figure .solve-scratch .ensures) (c .if6 .taken))
 
 returns-7 : tie.Need-returns-7
 returns-7 c =
-    let s = c .before .before .before .before .before .before .before .before .before .before .before .before .args .sheet .now in
-    let m = c .before .before .before .before .before .before .u16-at .ensures .0 in
-    let k = c .before .before .before .before .before .u16-at2 .ensures .0 in
-    let p = c .before .before .before .before .if3 .left in
-    let f = c .before .before .before .if4 .left in
-    let e = c .before .before .if5 .left in
-    solve-lent s _ _ _ _ _ _ _ _ (c .before .before .before .before .before .before .before .before .before .before .sheet-fault .ensures) (c .before .before .before .before .before .before .before .before .before .if1 .left) (c .before .before .before .before .before .before .before .before .drag-fault .ensures) (c .before .before .before .before .before .before .before .if2 .left)
-    (all-lent _ _ _ _ (all-long s _ _ _ (omega arith) (omega arith) (omega arith)) (c .before .solve-scratch .ensures) (c .if6 .left))
+    let figure = c .before in
+    lent (figure .before .before .before .before) 0 (all-lent _ _ _ _ (long figure) (figure .solve-scratch .ensures) (c .if6 .left))
 
 pub solve-fault-spec : {M : Type 1} → statement M
 solve-fault-spec =

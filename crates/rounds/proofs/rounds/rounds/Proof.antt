@@ -1,5 +1,5 @@
--- `rounds::rounds::rounds` meets its contract. The invariant: the rounds that are left come to what all come to, and the scratch that is not theirs is as it was.
--- The measure is the rounds to come. Assumes nothing.
+-- `rounds::rounds::rounds`. The invariant: the rounds that are left come to what all come to, and the scratch that is not theirs is as it was. A round that ends the loop,
+-- within the tolerance or not better, is the definition's last; the measure is the rounds to come. Assumes nothing.
 use mathlib.Core.Path.{_∙_}
 use Prim.Native.Nat.{_-_, _≤_}
 use native.Mathlib.Omega.{arith}
@@ -25,9 +25,10 @@ one-round-requires c κs =
 
 within-requires : tie.Need-within-requires Inv-loop μ-loop
 within-requires c κs =
-    let at = c .before .before .before .before .before .before in
+    let made = c .before .before .before in
+    let at = made .before .before .before in
     let o = at .before .before .before in
-    arranged-same (c .before .before .before .one-round .ensures .keeps .size ∙ at .loop .inv .1 .keeps .size) (o .pre .1 .0)
+    arranged-same (made .one-round .ensures .keeps .size ∙ at .loop .inv .1 .keeps .size) (o .pre .1 .0)
 
 add-t17 : tie.Need-add-t17 Inv-loop μ-loop
 add-t17 c = omega arith
@@ -36,26 +37,42 @@ add-t18 : tie.Need-add-t18 Inv-loop μ-loop
 add-t18 c = omega arith
 
 same-length : tie.Need-same-length Inv-loop μ-loop
-same-length c = c .before .before .before .before .before .one-round .ensures .keeps .size ∙ c .before .before .before .before .before .before .before .before .loop .inv .1 .keeps .size
+same-length c =
+    let made = c .before .before .before .before .before in
+    let at = made .before .before .before in
+    made .one-round .ensures .keeps .size ∙ at .loop .inv .1 .keeps .size
 
 returns : tie.Need-returns Inv-loop μ-loop
 returns c =
-    let at = c .before .before .before .before .before .before .before .before in
-    let o = at .before .before .before .args in
-    let x = c .before .before .before .before .before .one-round in
-    let y = c .before .within in
-    going-in (sceneOf (o .sheet .now) (o .scene)) (o .scene) (o .p) (o .s .now) (at .loop .s) _ (o .cost) (o .mu) (at .loop .c) (at .loop .d) (at .loop .i) (x .result) (omega arith) (at .loop .inv .1) (x .ensures) (y .result) (y .ensures) (c .if1 .taken)
+    let test = c .before in
+    let made = test .before .before .before .before in
+    let at = made .before .before .before in
+    let g = at .before .before .before .args in
+    let l = at .loop in
+    going-in (sceneOf (g .sheet .now) (g .scene)) (g .scene) (g .p) (g .s .now) (l .s) _ (g .cost) (g .mu) (l .c) (l .d) (l .i) (made .one-round .result) (omega arith) (l .inv .1) (made .one-round .ensures)
+    (test .within .result)
+    (test .within .ensures)
+    (c .if1 .taken)
 
 same-length-2 : tie.Need-same-length-2 Inv-loop μ-loop
-same-length-2 c = c .before .before .before .before .before .before .one-round .ensures .keeps .size ∙ c .before .before .before .before .before .before .before .before .before .loop .inv .1 .keeps .size
+same-length-2 c =
+    let made = c .before .before .before .before .before .before in
+    let at = made .before .before .before in
+    made .one-round .ensures .keeps .size ∙ at .loop .inv .1 .keeps .size
 
 returns-2 : tie.Need-returns-2 Inv-loop μ-loop
 returns-2 c =
-    let at = c .before .before .before .before .before .before .before .before .before in
-    let o = at .before .before .before .args in
-    let x = c .before .before .before .before .before .before .one-round in
-    let y = c .before .before .within in
-    going-stop (sceneOf (o .sheet .now) (o .scene)) (o .scene) (o .p) (o .s .now) (at .loop .s) _ (o .cost) (o .mu) (at .loop .c) (at .loop .d) (at .loop .i) (x .result) (omega arith) (at .loop .inv .1) (x .ensures) (y .result) (y .ensures) (c .before .if1 .left) (c .if2 .left)
+    let far = c .before in
+    let test = far .before in
+    let made = test .before .before .before .before in
+    let at = made .before .before .before in
+    let g = at .before .before .before .args in
+    let l = at .loop in
+    going-stop (sceneOf (g .sheet .now) (g .scene)) (g .scene) (g .p) (g .s .now) (l .s) _ (g .cost) (g .mu) (l .c) (l .d) (l .i) (made .one-round .result) (omega arith) (l .inv .1) (made .one-round .ensures)
+    (test .within .result)
+    (test .within .ensures)
+    (far .if1 .left)
+    (c .if2 .left)
 
 add-i : tie.Need-add-i Inv-loop μ-loop
 add-i c = omega arith
@@ -65,11 +82,14 @@ loop-less c = omega arith
 
 loop-again : tie.Need-loop-again Inv-loop μ-loop
 loop-again c =
-    let at = c .before .before .before .before .before .before .before .before .before in
-    let o = at .before .before .before .args in
-    let x = c .before .before .before .before .before .before .one-round in
-    let y = c .before .before .within in
-    (omega arith, going-on (sceneOf (o .sheet .now) (o .scene)) (o .scene) (o .p) (o .s .now) (at .loop .s) _ (o .cost) (o .mu) (at .loop .c) (at .loop .d) (at .loop .i) (x .result) (omega arith) (at .loop .inv .1) (x .ensures) (y .result) (y .ensures) (c .before .if1 .left) (c .if2 .taken))
+    let far = c .before in
+    let test = far .before in
+    let made = test .before .before .before .before in
+    let at = made .before .before .before in
+    let g = at .before .before .before .args in
+    let l = at .loop in
+    let on = going-on (sceneOf (g .sheet .now) (g .scene)) (g .scene) (g .p) (g .s .now) (l .s) _ (g .cost) (g .mu) (l .c) (l .d) (l .i) (made .one-round .result) (omega arith) (l .inv .1) (made .one-round .ensures) in
+    (omega arith, on (test .within .result) (test .within .ensures) (far .if1 .left) (c .if2 .taken))
 
 within-requires-2 : tie.Need-within-requires-2 Inv-loop μ-loop
 within-requires-2 c κs =
@@ -83,8 +103,9 @@ same-length-3 c = c .before .before .before .loop .inv .1 .keeps .size
 returns-3 : tie.Need-returns-3 Inv-loop μ-loop
 returns-3 c =
     let at = c .before .before .before in
-    let o = at .before .before .before .args in
-    going-end (sceneOf (o .sheet .now) (o .scene)) (o .scene) (o .p) (o .s .now) (at .loop .s) (o .cost) (o .mu) (at .loop .c) (at .loop .d) (at .loop .i) (c .within2 .result) (omega arith) (at .loop .inv .1) (c .within2 .ensures)
+    let g = at .before .before .before .args in
+    let l = at .loop in
+    going-end (sceneOf (g .sheet .now) (g .scene)) (g .scene) (g .p) (g .s .now) (l .s) (g .cost) (g .mu) (l .c) (l .d) (l .i) (c .within2 .result) (omega arith) (l .inv .1) (c .within2 .ensures)
 
 pub rounds-spec : {M : Type 1} → statement M
 rounds-spec =

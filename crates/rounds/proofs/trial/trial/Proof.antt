@@ -1,4 +1,5 @@
--- `rounds::trial::trial` meets its contract, by whether there is an answer and whether the step is better. Assumes nothing.
+-- `rounds::trial::trial`, by whether there is an answer and whether the step is better: a step that is better is taken and the damping softened; in every other case the
+-- unknowns and the rows stand as they were and the damping is stiffened. Assumes nothing.
 use mathlib.Core.Path.{ap, _∙_}
 use mathlib.Core.Logic.{⊎-elim}
 use borrow.Author.Needs.{needs}
@@ -13,8 +14,9 @@ answer-requires c κs = search needs
 
 advance-requires : tie.Need-advance-requires
 advance-requires c κs =
-    let g = c .before .before .before .before .before .before .before .before in
-    (g .pre .0, (rw (c .before .before .before .before .answer .ensures .kept .size) (g .pre .1 .0), g .pre .1 .1))
+    let answered = c .before .before .before .before in
+    let o = answered .before .before .before .before in
+    (o .pre .0, (rw (answered .answer .ensures .kept .size) (o .pre .1 .0), o .pre .1 .1))
 
 is-finite-requires : tie.Need-is-finite-requires
 is-finite-requires c κs = search needs
@@ -30,16 +32,19 @@ same-length c = search needs
 
 returns : tie.Need-returns
 returns c =
-    let g = c .before .before .before .before .before .before .before .before .before .before .before .before .before .before .before .before .before .before .before in
-    let x = c .before .before .before .before .before .before .before .is-finite in
+    let took = c .before .before .before in
+    let smaller = took .before .before in
+    let finite = smaller .before in
+    let tested = finite .before in
+    let far = tested .before .before .before in
+    let good = far .before .before in
+    let answered = good .before .before .before in
+    let o = answered .before .before .before .before in
+    let g = o .args in
     rw (c .softer .ensures)
-    (better (sceneOf (g .args .sheet .now) (g .args .scene)) (g .args .scene) (g .args .p) _ _ _ (g .args .cost) (g .args .mu) _ _ _ (g .pre .1 .0)
-    (c .before .before .before .before .before .before .before .before .before .before .before .before .before .before .before .answer .ensures)
-    (c .before .before .before .before .before .before .before .before .before .before .before .before .if1 .taken)
-    (c .before .before .before .before .before .before .before .before .before .before .advance .ensures)
-    _
-    (both-hold (x .result) _ _ (x .ensures) (c .before .before .before .before .before .before .if2 .taken) (c .before .before .before .before .before .if3 .taken))
-    (c .before .before .before .take-step .ensures))
+    (better (sceneOf (g .sheet .now) (g .scene)) (g .scene) (g .p) _ _ _ (g .cost) (g .mu) _ _ _ (o .pre .1 .0) (answered .answer .ensures) (good .if1 .taken) (far .advance .ensures) _
+    (both-hold (tested .is-finite .result) _ _ (tested .is-finite .ensures) (finite .if2 .taken) (smaller .if3 .taken))
+    (took .take-step .ensures))
 
 same-length-2 : tie.Need-same-length-2
 same-length-2 c =
@@ -48,13 +53,17 @@ same-length-2 c =
 
 returns-2 : tie.Need-returns-2
 returns-2 c =
-    let g = c .before .before .before .before .before .before .before in
-    let a = c .before .before .before .answer .ensures in
+    let answered = c .before .before .before in
+    let o = answered .before .before .before .before in
+    let g = o .args in
+    let sc = sceneOf (g .sheet .now) (g .scene) in
+    let a = answered .answer .ensures in
     ⊎-elim
     (λ x.
-    let e = ⊎-elim (λ y. second-fails (x .5 .result) _ _ (x .5 .ensures) (y .0 .taken) (y .1 .left)) (λ y. first-fails (x .5 .result) _ _ (x .5 .ensures) (y .left)) (x .6 .came) in
-    rw (x .7) (not-better (sceneOf (g .args .sheet .now) (g .args .scene)) (g .args .scene) (g .args .p) _ _ _ (g .args .cost) (g .args .mu) _ _ _ (g .pre .1 .0) a (x .0 .taken) (x .2 .ensures) e))
-    (λ x. rw (x .1) (no-answer (sceneOf (g .args .sheet .now) (g .args .scene)) (g .args .scene) (g .args .p) _ _ (g .args .cost) (g .args .mu) _ _ (g .pre .1 .0) a (x .0 .left)))
+    let test = x .5 in
+    let e = ⊎-elim (λ y. second-fails (test .result) _ _ (test .ensures) (y .0 .taken) (y .1 .left)) (λ y. first-fails (test .result) _ _ (test .ensures) (y .left)) (x .6 .came) in
+    rw (x .7) (not-better sc (g .scene) (g .p) _ _ _ (g .cost) (g .mu) _ _ _ (o .pre .1 .0) a (x .0 .taken) (x .2 .ensures) e))
+    (λ x. rw (x .1) (no-answer sc (g .scene) (g .p) _ _ (g .cost) (g .mu) _ _ (o .pre .1 .0) a (x .0 .left)))
     (c .if1 .came)
 
 pub trial-spec : {M : Type 1} → statement M

@@ -1,4 +1,4 @@
--- `scene::scene::put_weights` meets its contract. Assumes nothing.
+-- `scene::scene::put_weights`: a body without unknowns has no weights (`no-weights`), one with unknowns has the six that `put_six` writes (`some-weights`). Assumes nothing.
 use mathlib.Core.List.{map}
 use mathlib.Core.Path.{_≡_, refl, sym, ap, _∙_}
 use Prim.Native.Nat.{_-_}
@@ -20,7 +20,9 @@ element-copy-out-first : tie.Need-element-copy-out-first
 element-copy-out-first c = search needs
 
 returns : tie.Need-returns
-returns c = let g = c .before .before .before .before .args in put-nothing _ _ _ (no-weights (g .sheet .now) (g .t2) (bodyNumber (g .drag)) (g .i) (c .if1 .taken))
+returns c =
+    let g = c .before .before .before .before .args in
+    put-nothing _ _ _ (no-weights (g .sheet .now) (g .t2) (bodyNumber (g .drag)) (g .i) (c .if1 .taken))
 
 mul-body-at : tie.Need-mul-body-at
 mul-body-at c = search needs
@@ -39,27 +41,37 @@ half-size-requires c κs = search needs
 
 put-six-requires : tie.Need-put-six-requires
 put-six-requires c κs =
-    let g = c .before .before .before .before .before .before .before .before .args in
-    let e : length (inverseAt (g .sheet .now) (g .t2) (bodyNumber (g .drag)) (g .i)) ≡ 6 = ap length (some-weights (g .sheet .now) (g .t2) (bodyNumber (g .drag)) (g .i) (c .before .before .before .before .if1 .left)) in
-    omega (arith, c .before .before .before .before .before .before .before .before .pre .1 .1)
+    let moving = c .before .before .before .before in
+    let o = moving .before .before .before .before in
+    let g = o .args in
+    let six : length (inverseAt (g .sheet .now) (g .t2) (bodyNumber (g .drag)) (g .i)) ≡ 6 = ap length (some-weights (g .sheet .now) (g .t2) (bodyNumber (g .drag)) (g .i) (moving .if1 .left)) in
+    omega (arith, o .pre .1 .1)
 
 add-result : tie.Need-add-result
 add-result c =
-    let g = c .before .before .before .before .before .before .before .before .before .before .before .args in
-    let z = c .before .before .put-six .ensures .kept .size in
-    let e : length (inverseAt (g .sheet .now) (g .t2) (bodyNumber (g .drag)) (g .i)) ≡ 6 = ap length (some-weights (g .sheet .now) (g .t2) (bodyNumber (g .drag)) (g .i) (c .before .before .before .before .before .before .before .if1 .left)) in
-    omega (arith, c .before .before .before .before .before .before .before .before .before .before .before .pre .1 .1)
+    let put = c .before .before in
+    let moving = put .before .before .before .before .before in
+    let o = moving .before .before .before .before in
+    let g = o .args in
+    let z = put .put-six .ensures .kept .size in
+    let six : length (inverseAt (g .sheet .now) (g .t2) (bodyNumber (g .drag)) (g .i)) ≡ 6 = ap length (some-weights (g .sheet .now) (g .t2) (bodyNumber (g .drag)) (g .i) (moving .if1 .left)) in
+    omega (arith, o .pre .1 .1)
 
 same-length : tie.Need-same-length
 same-length c = c .before .before .put-six .ensures .kept .size
 
 returns-2 : tie.Need-returns-2
 returns-2 c =
-    let g = c .before .before .before .before .before .before .before .before .before .before .before .args in
-    let d = c .before .before .before .before .drag-factor .ensures in
-    let h = c .before .before .before .half-size .ensures ∙ ap halfSize (ap (λ (b : Body). b .size) (c .before .before .before .before .before .before .body-at .ensures)) in
-    let e = some-weights (g .sheet .now) (g .t2) (bodyNumber (g .drag)) (g .i) (c .before .before .before .before .before .before .before .if1 .left) in
-    put-six-is _ _ _ _ _ _ refl (e ∙ sym (λ v. map inverseWeight (bodyWeights (d v) (h v)))) refl (c .before .before .put-six .ensures)
+    let put = c .before .before in
+    let half = put .before in
+    let drag = half .before in
+    let body = drag .before .before in
+    let moving = body .before in
+    let g = moving .before .before .before .before .args in
+    let d = drag .drag-factor .ensures in
+    let h = half .half-size .ensures ∙ ap halfSize (ap (λ (b : Body). b .size) (body .body-at .ensures)) in
+    let six = some-weights (g .sheet .now) (g .t2) (bodyNumber (g .drag)) (g .i) (moving .if1 .left) in
+    put-six-is _ _ _ _ _ _ refl (six ∙ sym (λ v. map inverseWeight (bodyWeights (d v) (h v)))) refl (put .put-six .ensures)
 
 pub put-weights-spec : {M : Type 1} → statement M
 put-weights-spec =

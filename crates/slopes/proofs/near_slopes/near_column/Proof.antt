@@ -1,9 +1,10 @@
--- `slopes::near_slopes::near_column` meets its contract. The copy of the unknowns is a step ahead, a step behind, and at last as it was. Assumes nothing.
-use mathlib.Core.Path.{refl, _∙_}
+-- `slopes::near_slopes::near_column`: the copy of the unknowns is a step ahead, a step behind, and at last as it was; each time the rows near body i are worked anew, and the
+-- column is made of the two (`near-column-is`). The scratch stays as long as it is (`sized`, `sized2`). Assumes nothing.
+use mathlib.Core.Path.{_≡_, refl, _∙_}
 use Prim.Native.Nat.{_+_}
 use native.Mathlib.Omega.{arith}
 use lib.Ieee.{nan}
-use lib.ListN.{getD, length-set}
+use lib.ListN.{length, getD, length-set}
 use Rattle.scene.specs.Scene.{sceneOf}
 use Rattle.slopes.proofs.NearLaws.{apart-same, first-near, second-near, near-column-is}
 use Rattle.slopes.proofs.near_slopes.near_column.Statement.{statement}
@@ -34,71 +35,80 @@ near-rows-requires : tie.Need-near-rows-requires
 near-rows-requires c κs =
     let o = c .before .before .before .before .before in
     let g = o .args in
-    let a = o .pre .1 .0 in (
+    let a = o .pre .1 .0 in
+    let h = o .pre .1 .1 .0 in
+    let stand = o .pre .1 .1 .1 in (
       o .pre .0,
-      (apart-same (simp length-set refl) a, (o .pre .1 .1 .0 .0, ((omega arith, omega arith), first-near (sceneOf (g .sheet .now) (g .scene)) (g .scene) (g .at) (g .s .now) _ (g .i) (g .k) a (o .pre .1 .1 .0 .1) (o .pre .1 .1 .1 .0) (o .pre .1 .1 .1 .1) _))),
+      (
+        apart-same (simp length-set refl) a,
+        (h .0, ((omega arith, omega arith), first-near (sceneOf (g .sheet .now) (g .scene)) (g .scene) (g .at) (g .s .now) _ (g .i) (g .k) a (h .1) (stand .0) (stand .1) _)),
+      ),
     )
+
+-- the scratch is as long as at entry after the rows ahead, and after the rows behind
+sized : (c : tie.After-near-rows) → length (c .near-rows .last .1 .1 .0) ≡ length (c .before .before .before .before .before .before .args .s .now)
+sized c = simp length-set at (c .near-rows .ensures .rows-at .size)
+
+sized2 : (c : tie.After-near-rows2) → length (c .near-rows2 .last .1 .1 .0) ≡ length (c .before .before .before .before .before .before .before .before .before .before .args .s .now)
+sized2 c = (simp length-set at (c .near-rows2 .ensures .rows-at .size)) ∙ sized (c .before .before .before .before)
 
 add-s-2 : tie.Need-add-s-2
 add-s-2 c =
-    let a = c .before .before .before .before .before .before .before .before .pre .1 .0 in
-    let z = simp length-set at (c .before .before .near-rows .ensures .rows-at .size) in
+    let ahead = c .before .before in
+    let a = ahead .before .before .before .before .before .before .pre .1 .0 in
+    let z = sized ahead in
     omega arith
 
 mul-s-2 : tie.Need-mul-s-2
 mul-s-2 c =
-    let a = c .before .before .before .before .before .before .before .before .pre .1 .0 in
-    let z = simp length-set at (c .before .before .near-rows .ensures .rows-at .size) in
+    let ahead = c .before .before in
+    let a = ahead .before .before .before .before .before .before .pre .1 .0 in
+    let z = sized ahead in
     omega arith
 
 slice-write-s-2 : tie.Need-slice-write-s-2
 slice-write-s-2 c =
-    let a = c .before .before .before .before .before .before .before .before .pre .1 .0 in
-    let z = simp length-set at (c .before .before .near-rows .ensures .rows-at .size) in
+    let ahead = c .before .before in
+    let a = ahead .before .before .before .before .before .before .pre .1 .0 in
+    let z = sized ahead in
     omega arith
 
 near-rows-requires-2 : tie.Need-near-rows-requires-2
 near-rows-requires-2 c κs =
-    let o = c .before .before .before .before .before .before .before .before .before in
+    let ahead = c .before .before .before in
+    let o = ahead .before .before .before .before .before .before in
     let g = o .args in
     let a = o .pre .1 .0 in
-    let y = c .before .before .before .near-rows .ensures in
-    let z = simp length-set at (y .rows-at .size) in (
+    let h = o .pre .1 .1 .0 in
+    let stand = o .pre .1 .1 .1 in (
       o .pre .0,
-      (apart-same (simp length-set z) a, (o .pre .1 .1 .0 .0, ((omega arith, omega arith), second-near (sceneOf (g .sheet .now) (g .scene)) (g .scene) (g .at) (g .s .now) _ (g .i) (g .k) a (o .pre .1 .1 .0 .1) (o .pre .1 .1 .1 .0) (o .pre .1 .1 .1 .1) _ _ y _))),
+      (
+        apart-same (simp length-set (sized ahead)) a,
+        (h .0, ((omega arith, omega arith), second-near (sceneOf (g .sheet .now) (g .scene)) (g .scene) (g .at) (g .s .now) _ (g .i) (g .k) a (h .1) (stand .0) (stand .1) _ _ (ahead .near-rows .ensures) _)),
+      ),
     )
 
 add-s-3 : tie.Need-add-s-3
-add-s-3 c =
-    let a = c .before .before .before .before .before .before .before .before .before .before .before .before .pre .1 .0 in
-    let z = simp length-set at (c .before .before .before .before .before .before .near-rows .ensures .rows-at .size) in
-    let w = simp length-set at (c .before .before .near-rows2 .ensures .rows-at .size) in
-    omega arith
+add-s-3 c = let behind = c .before .before in omega (arith, behind .before .before .before .before .before .before .before .before .before .before, sized2 behind)
 
 mul-s-3 : tie.Need-mul-s-3
-mul-s-3 c =
-    let a = c .before .before .before .before .before .before .before .before .before .before .before .before .pre .1 .0 in
-    let z = simp length-set at (c .before .before .before .before .before .before .near-rows .ensures .rows-at .size) in
-    let w = simp length-set at (c .before .before .near-rows2 .ensures .rows-at .size) in
-    omega arith
+mul-s-3 c = let behind = c .before .before in omega (arith, behind .before .before .before .before .before .before .before .before .before .before, sized2 behind)
 
 slice-write-s-3 : tie.Need-slice-write-s-3
-slice-write-s-3 c =
-    let a = c .before .before .before .before .before .before .before .before .before .before .before .before .pre .1 .0 in
-    let z = simp length-set at (c .before .before .before .before .before .before .near-rows .ensures .rows-at .size) in
-    let w = simp length-set at (c .before .before .near-rows2 .ensures .rows-at .size) in
-    omega arith
+slice-write-s-3 c = let behind = c .before .before in omega (arith, behind .before .before .before .before .before .before .before .before .before .before, sized2 behind)
 
 put-column-requires : tie.Need-put-column-requires
 put-column-requires c κs =
-    let o = c .before .before .before .before .before .before .before .before .before .before .before .before .before in
+    let behind = c .before .before .before in
+    let o = behind .before .before .before .before .before .before .before .before .before .before in
     let a = o .pre .1 .0 in
-    let z = simp length-set at (c .before .before .before .before .before .before .before .near-rows .ensures .rows-at .size) in
-    let w = simp length-set at (c .before .before .before .near-rows2 .ensures .rows-at .size) in
+    let z = sized2 behind in
     (o .pre .1 .1 .0 .1, (omega arith, (omega arith, simp length-set (omega arith))))
 
 same-length : tie.Need-same-length
-same-length c = (simp length-set at (c .before .before .put-column .ensures .kept .size)) ∙ (simp length-set at (c .before .before .before .before .before .before .near-rows2 .ensures .rows-at .size)) ∙ (simp length-set at (c .before .before .before .before .before .before .before .before .before .before .near-rows .ensures .rows-at .size))
+same-length c =
+    let column = c .before .before in
+    (simp length-set at (column .put-column .ensures .kept .size)) ∙ sized2 (column .before .before .before .before)
 
 returns : tie.Need-returns
 returns c =
@@ -108,7 +118,33 @@ returns c =
     let step = ahead .before .before in
     let o = step .before .before .before .before in
     let g = o .args in
-    near-column-is (sceneOf (g .sheet .now) (g .scene)) (g .scene) (g .at) (g .s .now) _ _ _ (g .i) (g .k) (getD (g .s .now) (g .at .x + g .k) nan) (step .step-of .result) (o .pre .1 .0) (o .pre .1 .1 .0 .1) (o .pre .1 .1 .1 .0) (o .pre .1 .1 .1 .1) refl (step .step-of .ensures) (ahead .near-rows .ensures) (behind .near-rows2 .ensures) (column .put-column .ensures)
+    let v = getD (g .s .now) (g .at .x + g .k) nan in
+    let k-in = o .pre .1 .1 .0 .1 in
+    let stand = o .pre .1 .1 .1 in
+    near-column-is (sceneOf (g .sheet .now) (g .scene)) (g .scene) (g .at) (g .s .now) _ _ _ (g .i) (g .k) v (step .step-of .result) (o .pre .1 .0) k-in (stand .0) (stand .1) refl (step .step-of .ensures)
+    (ahead .near-rows .ensures)
+    (behind .near-rows2 .ensures)
+    (column .put-column .ensures)
 
 pub near-column-spec : {M : Type 1} → statement M
-near-column-spec = tie.close (tie.spec add-v mul-v slice-read-v step-of-requires add-s mul-s slice-write-s near-rows-requires add-s-2 mul-s-2 slice-write-s-2 near-rows-requires-2 add-s-3 mul-s-3 slice-write-s-3 put-column-requires same-length returns)
+near-column-spec =
+    tie.close
+    (tie.spec
+    add-v
+    mul-v
+    slice-read-v
+    step-of-requires
+    add-s
+    mul-s
+    slice-write-s
+    near-rows-requires
+    add-s-2
+    mul-s-2
+    slice-write-s-2
+    near-rows-requires-2
+    add-s-3
+    mul-s-3
+    slice-write-s-3
+    put-column-requires
+    same-length
+    returns)

@@ -1,10 +1,10 @@
--- `slopes::slopes::put_column` meets its contract. The invariant: the first i entries of the column are written, and no entry of another column has changed.
--- The measure is the entries to come. Assumes nothing.
+-- `slopes::slopes::put_column`. The invariant: the first i entries of the column are written, and no entry of another column has changed; the rows ahead and behind stand
+-- behind the slopes, so they are as at entry. The measure is the entries to come. Assumes nothing.
 use mathlib.Core.Path.{_≡_, _∙_}
-use Prim.Native.Nat.{_+_, _-_, _*_, _≤_}
+use Prim.Native.Nat.{_+_, _-_, _*_, _≤_, _<_}
 use native.Mathlib.Omega.{arith}
 use lib.Ieee.{nan}
-use lib.ListN.{getD}
+use lib.ListN.{length, getD}
 use Rattle.least_squares.specs.Lm.{slopeOf}
 use Rattle.least_squares.proofs.MemoryLaws.{kept-at-above}
 use Rattle.least_squares.proofs.TableLaws.{in-rows}
@@ -21,61 +21,51 @@ abbrev μ-loop : tie.MeasureT-loop
 loop-holds : tie.Need-loop-holds Inv-loop μ-loop
 loop-holds c = (omega arith, filling-start _ _ _ _ _ _)
 
+-- the entry that is written lies in the slopes, and the scratch is as long as at entry
+inside : (c : tie.In-loop Inv-loop μ-loop)
+    → let l = c .before .loop in
+    let g = c .before .before .before .args in
+    (l .i * g .n + g .c < g .rows * g .n) × (length (l .s) ≡ length (g .s .now))
+inside c =
+    let l = c .before .loop in
+    let g = c .before .before .before .args in
+    (in-rows (l .i) (g .c) (g .n) (g .rows) (omega arith) (omega arith), l .inv .1 .kept .size)
+
 add-slope-of : tie.Need-add-slope-of Inv-loop μ-loop
-add-slope-of c = let z = c .before .loop .inv .1 .kept .size in omega arith
+add-slope-of c = omega (arith, inside c)
 
 mul-slope-of : tie.Need-mul-slope-of Inv-loop μ-loop
-mul-slope-of c = let z = c .before .loop .inv .1 .kept .size in omega arith
+mul-slope-of c = omega (arith, inside c)
 
 slice-read-slope-of : tie.Need-slice-read-slope-of Inv-loop μ-loop
-slice-read-slope-of c = let z = c .before .before .loop .inv .1 .kept .size in omega arith
+slice-read-slope-of c = omega (arith, inside (c .before))
 
 add-slope-of-2 : tie.Need-add-slope-of-2 Inv-loop μ-loop
-add-slope-of-2 c = let z = c .before .before .loop .inv .1 .kept .size in omega arith
+add-slope-of-2 c = omega (arith, inside (c .before))
 
 mul-slope-of-2 : tie.Need-mul-slope-of-2 Inv-loop μ-loop
-mul-slope-of-2 c = let z = c .before .before .loop .inv .1 .kept .size in omega arith
+mul-slope-of-2 c = omega (arith, inside (c .before))
 
 slice-read-slope-of-2 : tie.Need-slice-read-slope-of-2 Inv-loop μ-loop
-slice-read-slope-of-2 c = let z = c .before .before .before .loop .inv .1 .kept .size in omega arith
+slice-read-slope-of-2 c = omega (arith, inside (c .before .before))
 
 slope-of-requires : tie.Need-slope-of-requires Inv-loop μ-loop
 slope-of-requires c κs = tt
 
 mul-s : tie.Need-mul-s Inv-loop μ-loop
-mul-s c =
-    let g = c .before .before .before .before .before .before .args in
-    let z = c .before .before .before .before .loop .inv .1 .kept .size in
-    let w = in-rows (c .before .before .before .before .loop .i) (g .c) (g .n) (g .rows) (omega arith) (omega arith) in
-    omega arith
+mul-s c = omega (arith, inside (c .before .before .before))
 
 add-s : tie.Need-add-s Inv-loop μ-loop
-add-s c =
-    let g = c .before .before .before .before .before .before .args in
-    let z = c .before .before .before .before .loop .inv .1 .kept .size in
-    let w = in-rows (c .before .before .before .before .loop .i) (g .c) (g .n) (g .rows) (omega arith) (omega arith) in
-    omega arith
+add-s c = omega (arith, inside (c .before .before .before))
 
 add-s-2 : tie.Need-add-s-2 Inv-loop μ-loop
-add-s-2 c =
-    let g = c .before .before .before .before .before .before .args in
-    let z = c .before .before .before .before .loop .inv .1 .kept .size in
-    let w = in-rows (c .before .before .before .before .loop .i) (g .c) (g .n) (g .rows) (omega arith) (omega arith) in
-    omega arith
+add-s-2 c = omega (arith, inside (c .before .before .before))
 
 mul-s-2 : tie.Need-mul-s-2 Inv-loop μ-loop
-mul-s-2 c =
-    let g = c .before .before .before .before .before .before .args in
-    let z = c .before .before .before .before .loop .inv .1 .kept .size in
-    let w = in-rows (c .before .before .before .before .loop .i) (g .c) (g .n) (g .rows) (omega arith) (omega arith) in
-    omega arith
+mul-s-2 c = omega (arith, inside (c .before .before .before))
 
 slice-write-s : tie.Need-slice-write-s Inv-loop μ-loop
-slice-write-s c =
-    let g = c .before .before .before .before .before .before .args in
-    let z = c .before .before .before .before .loop .inv .1 .kept .size in
-    let w = in-rows (c .before .before .before .before .loop .i) (g .c) (g .n) (g .rows) (omega arith) (omega arith) in
-    omega arith
+slice-write-s c = omega (arith, inside (c .before .before .before))
 
 add-i : tie.Need-add-i Inv-loop μ-loop
 add-i c = omega arith
@@ -85,20 +75,23 @@ loop-less c = omega arith
 
 loop-again : tie.Need-loop-again Inv-loop μ-loop
 loop-again c =
-    let g = c .before .before .before .before .before .before .args in
-    let l = c .before .before .before .before .loop in
+    let at = c .before .before .before .before in
+    let l = at .loop in
+    let g = at .before .before .args in
     let y = l .inv .1 in
-    let p = kept-at-above (g .s .now) (l .s) (g .j) (g .j + g .rows * g .n) (g .a + l .i) nan (omega arith) (y .kept) in
-    let q = kept-at-above (g .s .now) (l .s) (g .j) (g .j + g .rows * g .n) (g .b + l .i) nan (omega arith) (y .kept) in (
-      omega arith,
-      filling-step (g .s .now) (l .s) (g .j) (g .n) (g .rows) (g .c) (l .i) _ _ (omega arith) (omega arith) (omega arith) (c .slope-of .ensures ∙ (λ v. slopeOf (p v) (q v) (g .h))) y,
-    )
+    let ahead = kept-at-above (g .s .now) (l .s) (g .j) (g .j + g .rows * g .n) (g .a + l .i) nan (omega arith) (y .kept) in
+    let behind = kept-at-above (g .s .now) (l .s) (g .j) (g .j + g .rows * g .n) (g .b + l .i) nan (omega arith) (y .kept) in
+    let slope = c .slope-of .ensures ∙ (λ v. slopeOf (ahead v) (behind v) (g .h)) in
+    (omega arith, filling-step (g .s .now) (l .s) (g .j) (g .n) (g .rows) (g .c) (l .i) _ _ (omega arith) (omega arith) (omega arith) slope y)
 
 same-length : tie.Need-same-length Inv-loop μ-loop
 same-length c = c .before .loop .inv .1 .kept .size
 
 returns : tie.Need-returns Inv-loop μ-loop
-returns c = let e : c .before .loop .i ≡ c .before .before .before .args .rows = omega arith in filling-end _ _ _ _ _ _ _ _ e (c .before .loop .inv .1)
+returns c =
+    let at = c .before in
+    let e : at .loop .i ≡ at .before .before .args .rows = omega arith in
+    filling-end _ _ _ _ _ _ _ _ e (at .loop .inv .1)
 
 pub put-column-spec : {M : Type 1} → statement M
 put-column-spec =
