@@ -5,8 +5,8 @@ use borrow.Author.Needs.{needs}
 use Rattle.eigen_list.proofs.record.Statement.{statement}
 use Rattle.eigen_list.proofs.record.Tie as tie
 
-next-requires : tie.Need-next-requires
-next-requires c κs = search needs
+word-requires : tie.Need-word-requires
+word-requires c κs = search needs
 
 returns : tie.Need-returns
 returns c = search needs
@@ -32,11 +32,11 @@ slice-aggregate-solve-3 c = search needs
 solve-requires : tie.Need-solve-requires
 solve-requires c κs = omega (arith, mul-le-mul (c .before .before .before .before .before .before .if1 .left) (c .before .before .before .before .before .before .if1 .left))
 
-slice-aggregate-same-values : tie.Need-slice-aggregate-same-values
-slice-aggregate-same-values c = search needs
+slice-aggregate-holds : tie.Need-slice-aggregate-holds
+slice-aggregate-holds c = search needs
 
-same-values-requires : tie.Need-same-values-requires
-same-values-requires c κs = search needs
+holds-requires : tie.Need-holds-requires
+holds-requires c κs = search needs
 
 slice-aggregate-same-vectors : tie.Need-slice-aggregate-same-vectors
 slice-aggregate-same-vectors c = search needs
@@ -54,7 +54,7 @@ pub record-spec : {M : Type 1} → statement M
 record-spec =
     tie.close
     (tie.spec
-    next-requires
+    word-requires
     returns
     slice-aggregate-read
     mul-read
@@ -63,8 +63,8 @@ record-spec =
     slice-aggregate-solve-2
     slice-aggregate-solve-3
     solve-requires
-    slice-aggregate-same-values
-    same-values-requires
+    slice-aggregate-holds
+    holds-requires
     slice-aggregate-same-vectors
     same-vectors-requires
     returns-2

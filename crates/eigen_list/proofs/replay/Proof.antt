@@ -5,13 +5,16 @@ use Rattle.eigen_list.proofs.replay.Statement.{statement}
 use Rattle.eigen_list.proofs.replay.Tie as tie
 
 abbrev Inv-loop : tie.InvT-loop
-Inv-loop fd which n wrong₀ i₀ wrong i = i ≤ n
+Inv-loop path which fd n wrong₀ i₀ wrong i = i ≤ n
 
 abbrev μ-loop : tie.MeasureT-loop
-μ-loop fd which n wrong₀ i₀ wrong i = n - i
+μ-loop path which fd n wrong₀ i₀ wrong i = n - i
 
-next-requires : tie.Need-next-requires Inv-loop μ-loop
-next-requires c κs = tt
+open-requires : tie.Need-open-requires Inv-loop μ-loop
+open-requires c κs = tt
+
+count-requires : tie.Need-count-requires Inv-loop μ-loop
+count-requires c κs = tt
 
 loop-holds : tie.Need-loop-holds Inv-loop μ-loop
 loop-holds c = omega arith
@@ -19,8 +22,8 @@ loop-holds c = omega arith
 judge-requires : tie.Need-judge-requires Inv-loop μ-loop
 judge-requires c κs = tt
 
-wrapping-add-u64-requires : tie.Need-wrapping-add-u64-requires Inv-loop μ-loop
-wrapping-add-u64-requires c κs = tt
+counted-requires : tie.Need-counted-requires Inv-loop μ-loop
+counted-requires c κs = tt
 
 add-i : tie.Need-add-i Inv-loop μ-loop
 add-i c = omega arith
@@ -31,6 +34,9 @@ loop-less c = omega arith
 loop-again : tie.Need-loop-again Inv-loop μ-loop
 loop-again c = omega arith
 
+close-requires : tie.Need-close-requires Inv-loop μ-loop
+close-requires c κs = tt
+
 returns : tie.Need-returns Inv-loop μ-loop
 returns c = tt
 
@@ -40,11 +46,13 @@ replay-spec =
     (tie.spec
     Inv-loop
     μ-loop
-    next-requires
+    open-requires
+    count-requires
     loop-holds
     judge-requires
-    wrapping-add-u64-requires
+    counted-requires
     add-i
     loop-less
     loop-again
+    close-requires
     returns)

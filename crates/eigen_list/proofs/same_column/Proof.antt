@@ -26,8 +26,8 @@ mul-same-2 c = omega (arith, row-within (c .loop-test .taken))
 shared-slice-read-same : tie.Need-shared-slice-read-same Inv-loop μ-loop
 shared-slice-read-same c = omega (arith, row-within (c .before .loop-test .taken))
 
-next-requires : tie.Need-next-requires Inv-loop μ-loop
-next-requires c κs = tt
+word-requires : tie.Need-word-requires Inv-loop μ-loop
+word-requires c κs = tt
 
 same-requires : tie.Need-same-requires Inv-loop μ-loop
 same-requires c κs = tt
@@ -55,7 +55,7 @@ same-column-spec =
     add-same
     mul-same-2
     shared-slice-read-same
-    next-requires
+    word-requires
     same-requires
     add-k
     loop-less

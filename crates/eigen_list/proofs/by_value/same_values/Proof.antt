@@ -19,8 +19,8 @@ mul-p c = omega arith
 array-copy-out-p : tie.Need-array-copy-out-p Inv-loop μ-loop
 array-copy-out-p c = omega arith
 
-next-requires : tie.Need-next-requires Inv-loop μ-loop
-next-requires c κs = tt
+word-requires : tie.Need-word-requires Inv-loop μ-loop
+word-requires c κs = tt
 
 same-requires : tie.Need-same-requires Inv-loop μ-loop
 same-requires c κs = tt
@@ -46,7 +46,7 @@ same-values-spec =
     loop-holds
     mul-p
     array-copy-out-p
-    next-requires
+    word-requires
     same-requires
     add-i
     loop-less

@@ -19,8 +19,8 @@ mul-p c = omega arith
 array-copy-out-p : tie.Need-array-copy-out-p Inv-loop μ-loop
 array-copy-out-p c = omega arith
 
-same-vector-requires : tie.Need-same-vector-requires Inv-loop μ-loop
-same-vector-requires c κs = omega arith
+same-eigenvector-requires : tie.Need-same-eigenvector-requires Inv-loop μ-loop
+same-eigenvector-requires c κs = omega arith
 
 add-i : tie.Need-add-i Inv-loop μ-loop
 add-i c = omega arith
@@ -43,7 +43,7 @@ same-vectors-spec =
     loop-holds
     mul-p
     array-copy-out-p
-    same-vector-requires
+    same-eigenvector-requires
     add-i
     loop-less
     loop-again

@@ -1,8 +1,8 @@
--- `eigen_list::by_value::read_matrix` is safe and ends: the measure is the number of rows that are left. Assumes nothing.
+-- `eigen_list::by_value::matrix` is safe and ends: the measure is the number of rows that are left. Assumes nothing.
 use native.Mathlib.Omega.{arith}
 use Prim.Native.Nat.{_≤_, _-_}
-use Rattle.eigen_list.proofs.by_value.read_matrix.Statement.{statement}
-use Rattle.eigen_list.proofs.by_value.read_matrix.Tie as tie
+use Rattle.eigen_list.proofs.by_value.matrix.Statement.{statement}
+use Rattle.eigen_list.proofs.by_value.matrix.Tie as tie
 
 abbrev Inv-loop : tie.InvT-loop
 Inv-loop fd n m₀ i₀ m i = i ≤ n
@@ -13,8 +13,8 @@ abbrev μ-loop : tie.MeasureT-loop
 loop-holds : tie.Need-loop-holds Inv-loop μ-loop
 loop-holds c = omega arith
 
-read-row-requires : tie.Need-read-row-requires Inv-loop μ-loop
-read-row-requires c κs = omega arith
+row-requires : tie.Need-row-requires Inv-loop μ-loop
+row-requires c κs = omega arith
 
 mul-m : tie.Need-mul-m Inv-loop μ-loop
 mul-m c = omega arith
@@ -34,14 +34,14 @@ loop-again c = omega arith
 returns : tie.Need-returns Inv-loop μ-loop
 returns c = tt
 
-pub read-matrix-spec : {M : Type 1} → statement M
-read-matrix-spec =
+pub matrix-spec : {M : Type 1} → statement M
+matrix-spec =
     tie.close
     (tie.spec
     Inv-loop
     μ-loop
     loop-holds
-    read-row-requires
+    row-requires
     mul-m
     array-set-from-m
     add-i
