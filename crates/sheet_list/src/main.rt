@@ -1,10 +1,17 @@
 // Replays the Rust's answers to the five calls, refusals included, and prints how many answers each list holds and how many of them differ here.
 // All bits are compared; all NaNs are the same. data/ has the lists, whose formats oracle/FORMATS.md gives.
+mod lent;
 mod solving;
-mod words;
 
 ghost use Prim.Native.Nat.{_≤_};
 ghost use lib.ListN.{length};
+use lent::BEFORE;
+use lent::BEFORE_BITS;
+use lent::holds;
+use lists::answers::counted;
+use lists::answers::same;
+use lists::list;
+use lists::list::word;
 use sheet::calls::sheet_joint_reading;
 use sheet::calls::sheet_judge;
 use sheet::calls::sheet_snap;
@@ -12,11 +19,6 @@ use solving::Call;
 use solving::dof_right;
 use solving::solve_right;
 use std::num::wrapping_add_u64;
-use words::BEFORE;
-use words::BEFORE_BITS;
-use words::holds;
-use words::same;
-use words::word;
 
 struct Tally {
     answers: u64,
@@ -27,19 +29,6 @@ enum List {
     Sheets,
     Fields,
     Relations,
-}
-
-// How many records or calls follow. A list that is out of step, as after a wrong answer, may give any number here: none follow then, and the counts differ.
-fn how_many(fd: i32) -> u64 {
-    let n = word(fd);
-    if n > 0xFFFF { 0 } else { n }
-}
-
-// Reads n bytes, unless the list ends before them.
-fn filled(fd: i32, s: &mut [u8], n: usize) -> bool
-    requires { ⌜ n ≤ length (now s) ⌝ }
-{
-    io::read_full(fd, &mut s[0..n]) == n
 }
 
 fn judge_right(s: &[u8], relation: u16, want: u64) -> bool {
@@ -132,14 +121,12 @@ fn next_call(fd: i32) -> Call {
 
 // The calls of a sheet.
 fn calls(fd: i32, s: &[u8], scratch: &mut [f64]) -> Tally {
-    let n = how_many(fd);
+    let n = list::count(fd);
     let mut wrong = 0u64;
     let mut i = 0u64;
     while i < n {
         let c = next_call(fd);
-        if !right(fd, s, scratch, c) {
-            wrong = wrapping_add_u64(wrong, 1);
-        }
+        wrong = counted(wrong, right(fd, s, scratch, c));
         i += 1;
     }
     Tally { answers: n, wrong }
@@ -156,7 +143,7 @@ fn sheet_calls(fd: i32, scratch: &mut [f64]) -> Tally {
         };
     }
     let n = bytes as usize;
-    filled(fd, &mut s, (n + 7) / 8 * 8);
+    list::filled(fd, &mut s, (n + 7) / 8 * 8);
     calls(fd, &s[0..n], scratch)
 }
 
@@ -180,14 +167,12 @@ fn changed(fd: i32, sheet: [u8; 424]) -> bool {
 
 fn fields(fd: i32) -> Tally {
     let mut s = [0u8; 424];
-    filled(fd, &mut s, 424);
-    let n = how_many(fd);
+    list::filled(fd, &mut s, 424);
+    let n = list::count(fd);
     let mut wrong = 0u64;
     let mut i = 0u64;
     while i < n {
-        if !changed(fd, s) {
-            wrong = wrapping_add_u64(wrong, 1);
-        }
+        wrong = counted(wrong, changed(fd, s));
         i += 1;
     }
     Tally { answers: n, wrong }
@@ -236,8 +221,9 @@ fn record(fd: i32, k: List, scratch: &mut [f64]) -> Tally {
     }
 }
 
-fn replay(fd: i32, k: List, scratch: &mut [f64]) -> Tally {
-    let n = how_many(fd);
+fn replay(path: &[u8], k: List, scratch: &mut [f64]) {
+    let fd = list::open(path);
+    let n = list::count(fd);
     let mut answers = 0u64;
     let mut wrong = 0u64;
     let mut i = 0u64;
@@ -247,36 +233,16 @@ fn replay(fd: i32, k: List, scratch: &mut [f64]) -> Tally {
         wrong = wrapping_add_u64(wrong, t.wrong);
         i += 1;
     }
-    Tally { answers, wrong }
-}
-
-fn say(name: &[u8], t: Tally) {
-    io::write_all(1, name);
-    io::write_all(1, b" answers ");
-    io::print_decimal(1, t.answers);
-    io::write_all(1, b" wrong ");
-    io::print_decimal(1, t.wrong);
-    io::write_all(1, b"\n");
-}
-
-fn replay_file(path: &[u8], k: List, scratch: &mut [f64]) {
-    let fd = os::open_read(path);
-    if fd < 0 {
-        os::fail(path);
-        return;
-    }
-    let t = replay(fd, k, scratch);
-    libc::close(fd);
-    say(path, t);
+    list::close(path, fd, answers, wrong);
 }
 
 // One scratch serves all calls and is never cleared. It is as long as the lists ask; 800 rows would ask `solve` for 1.3 million doubles, more than a stack of 8 MB holds.
 fn replay_all(scratch: &mut [f64; 300_000]) {
-    replay_file(b"sheets_refused.bin", List::Sheets, scratch);
-    replay_file(b"sheets_fields.bin", List::Fields, scratch);
-    replay_file(b"relation_calls.bin", List::Relations, scratch);
-    replay_file(b"sheets_solved.bin", List::Sheets, scratch);
-    replay_file(b"sheets_limits.bin", List::Sheets, scratch);
+    replay(b"sheets_refused.bin", List::Sheets, scratch);
+    replay(b"sheets_fields.bin", List::Fields, scratch);
+    replay(b"relation_calls.bin", List::Relations, scratch);
+    replay(b"sheets_solved.bin", List::Sheets, scratch);
+    replay(b"sheets_limits.bin", List::Sheets, scratch);
 }
 
 fn main() {

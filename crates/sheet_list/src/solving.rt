@@ -2,9 +2,9 @@
 // them are as before. Before a call the flag is 77, and the total 777.
 
 ghost use Prim.Native.Nat.{_<_};
-use crate::words::BEFORE;
-use crate::words::holds;
-use crate::words::word;
+use crate::lent::BEFORE;
+use crate::lent::holds;
+use lists::list::word;
 use records::record::u16_at;
 use sheet::freedoms::sheet_dof;
 use sheet::solving::sheet_solve;

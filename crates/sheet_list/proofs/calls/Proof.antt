@@ -12,8 +12,8 @@ Inv-loop fd s scratch₀ n wrong₀ i₀ scratch wrong i = (i ≤ n) × (length 
 abbrev μ-loop : tie.MeasureT-loop
 μ-loop fd s scratch₀ n wrong₀ i₀ scratch wrong i = n - i
 
-how-many-requires : tie.Need-how-many-requires Inv-loop μ-loop
-how-many-requires c κs = tt
+count-requires : tie.Need-count-requires Inv-loop μ-loop
+count-requires c κs = tt
 
 loop-holds : tie.Need-loop-holds Inv-loop μ-loop
 loop-holds c = (omega arith, refl)
@@ -24,8 +24,8 @@ next-call-requires c κs = tt
 right-requires : tie.Need-right-requires Inv-loop μ-loop
 right-requires c κs = tt
 
-wrapping-add-u64-requires : tie.Need-wrapping-add-u64-requires Inv-loop μ-loop
-wrapping-add-u64-requires c κs = tt
+counted-requires : tie.Need-counted-requires Inv-loop μ-loop
+counted-requires c κs = tt
 
 add-i : tie.Need-add-i Inv-loop μ-loop
 add-i c = omega arith
@@ -48,11 +48,11 @@ calls-spec =
     (tie.spec
     Inv-loop
     μ-loop
-    how-many-requires
+    count-requires
     loop-holds
     next-call-requires
     right-requires
-    wrapping-add-u64-requires
+    counted-requires
     add-i
     loop-less
     loop-again

@@ -17,8 +17,8 @@ slice-aggregate-filled c = omega arith
 filled-requires : tie.Need-filled-requires Inv-loop μ-loop
 filled-requires c κs = search needs
 
-how-many-requires : tie.Need-how-many-requires Inv-loop μ-loop
-how-many-requires c κs = search needs
+count-requires : tie.Need-count-requires Inv-loop μ-loop
+count-requires c κs = search needs
 
 loop-holds : tie.Need-loop-holds Inv-loop μ-loop
 loop-holds c = omega arith
@@ -26,8 +26,8 @@ loop-holds c = omega arith
 changed-requires : tie.Need-changed-requires Inv-loop μ-loop
 changed-requires c κs = search needs
 
-wrapping-add-u64-requires : tie.Need-wrapping-add-u64-requires Inv-loop μ-loop
-wrapping-add-u64-requires c κs = search needs
+counted-requires : tie.Need-counted-requires Inv-loop μ-loop
+counted-requires c κs = search needs
 
 add-i : tie.Need-add-i Inv-loop μ-loop
 add-i c = omega arith
@@ -49,10 +49,10 @@ fields-spec =
     μ-loop
     slice-aggregate-filled
     filled-requires
-    how-many-requires
+    count-requires
     loop-holds
     changed-requires
-    wrapping-add-u64-requires
+    counted-requires
     add-i
     loop-less
     loop-again

@@ -7,13 +7,16 @@ use Rattle.sheet_list.proofs.replay.Statement.{statement}
 use Rattle.sheet_list.proofs.replay.Tie as tie
 
 abbrev Inv-loop : tie.InvT-loop
-Inv-loop fd k scratch₀ n answers₀ wrong₀ i₀ scratch answers wrong i = (i ≤ n) × (length scratch ≡ length scratch₀)
+Inv-loop path k scratch₀ fd n answers₀ wrong₀ i₀ scratch answers wrong i = (i ≤ n) × (length scratch ≡ length scratch₀)
 
 abbrev μ-loop : tie.MeasureT-loop
-μ-loop fd k scratch₀ n answers₀ wrong₀ i₀ scratch answers wrong i = n - i
+μ-loop path k scratch₀ fd n answers₀ wrong₀ i₀ scratch answers wrong i = n - i
 
-how-many-requires : tie.Need-how-many-requires Inv-loop μ-loop
-how-many-requires c κs = tt
+open-requires : tie.Need-open-requires Inv-loop μ-loop
+open-requires c κs = tt
+
+count-requires : tie.Need-count-requires Inv-loop μ-loop
+count-requires c κs = tt
 
 loop-holds : tie.Need-loop-holds Inv-loop μ-loop
 loop-holds c = (omega arith, refl)
@@ -36,6 +39,9 @@ loop-less c = omega arith
 loop-again : tie.Need-loop-again Inv-loop μ-loop
 loop-again c = omega arith
 
+close-requires : tie.Need-close-requires Inv-loop μ-loop
+close-requires c κs = tt
+
 same-length : tie.Need-same-length Inv-loop μ-loop
 same-length c = omega arith
 
@@ -48,7 +54,8 @@ replay-spec =
     (tie.spec
     Inv-loop
     μ-loop
-    how-many-requires
+    open-requires
+    count-requires
     loop-holds
     record-requires
     wrapping-add-u64-requires
@@ -56,5 +63,6 @@ replay-spec =
     add-i
     loop-less
     loop-again
+    close-requires
     same-length
     returns)

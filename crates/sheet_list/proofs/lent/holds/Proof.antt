@@ -1,10 +1,10 @@
--- `sheet_list::words::holds` is safe and ends: the measure is the number of doubles that are left. Assumes nothing.
+-- `sheet_list::lent::holds` is safe and ends: the measure is the number of doubles that are left. Assumes nothing.
 use Prim.Native.Nat.{_≤_, _-_}
 use native.Mathlib.Omega.{arith}
 use mathlib.Core.Path.{_≡_, refl}
 use lib.ListN.{length}
-use Rattle.sheet_list.proofs.words.holds.Statement.{statement}
-use Rattle.sheet_list.proofs.words.holds.Tie as tie
+use Rattle.sheet_list.proofs.lent.holds.Statement.{statement}
+use Rattle.sheet_list.proofs.lent.holds.Tie as tie
 
 abbrev Inv-loop : tie.InvT-loop
 Inv-loop fd d n right₀ i₀ i-end right i = (i ≤ i-end) × (i-end ≡ length d)
