@@ -18,6 +18,8 @@ use Rattle.vectors.specs.Math.{Mat, apply, identity, PI}
 use Rattle.relations.specs.Geometry.{Geo, plane, line, point, circle, Pose, vecOf, poseOf, place, placed, directionOf, jointFrame}
 use Rattle.relations.specs.Model.{End, Law, mate, flush, angle, insert, tangent, symmetry, joint, Rel}
 use Rattle.relations.specs.declared.rows.Rows.{Rows}
+use Rattle.relations.specs.declared.rows.Pair.{Pair as PairEnum}
+use Rattle.relations.specs.declared.rows.Pair.the-variants.{Planes, Lines, Points, PlanePoint, LinePoint, PlaneLine, Other}
 use Rattle.relations.specs.declared.rows.JointAt.{JointAt as JointStruct}
 use Rattle.relations.specs.declared.model.JointKind.{JointKind}
 use Rattle.relations.specs.declared.model.JointKind.the-variants.{Rigid, Revolute, Slider, Cylindrical, Planar, Ball}
@@ -59,6 +61,43 @@ matePrim (line p d) = line p d
 matePrim (point p) = point p
 matePrim (circle c n r) = line c n
 
+-- Two primitives, as the Rust's `match (pa, pb)` tells them apart: two of a kind, a's before b's; two kinds, in one order whichever of the two is a's, as
+-- its `(Plane, Point) | (Point, Plane)` takes them; and its `_`. A law that tells several pairs apart has a table over these, as `mateOf`, and `mateRows`
+-- is that table at two primitives.
+pub data Pair (C : Type 0) : Type 0 where
+  planes : Vec C → Vec C → Vec C → Vec C → Pair C
+  lines : Vec C → Vec C → Vec C → Vec C → Pair C
+  points : Vec C → Vec C → Pair C
+  planePoint : Vec C → Vec C → Vec C → Pair C
+  linePoint : Vec C → Vec C → Vec C → Pair C
+  planeLine : Vec C → Vec C → Vec C → Vec C → Pair C
+  other : Pair C
+
+abbrev pub pair : {C : Type 0} → Geo C → Geo C → Pair C
+pair (plane a na) (plane b nb) = planes a na b nb
+pair (plane p n) (line q d) = planeLine p n q d
+pair (plane p n) (point q) = planePoint p n q
+pair (plane p n) (circle c m r) = other
+pair (line q d) (plane p n) = planeLine p n q d
+pair (line a da) (line b db) = lines a da b db
+pair (line p d) (point q) = linePoint p d q
+pair (line p d) (circle c m r) = other
+pair (point q) (plane p n) = planePoint p n q
+pair (point q) (line p d) = linePoint p d q
+pair (point a) (point b) = points a b
+pair (point q) (circle c m r) = other
+pair (circle c m r) b = other
+
+-- the numbers of a `Pair`
+abbrev pub pairOf : PairEnum → Pair Float
+pairOf (Planes a na b nb) = planes (vec a) (vec na) (vec b) (vec nb)
+pairOf (Lines a da b db) = lines (vec a) (vec da) (vec b) (vec db)
+pairOf (Points a b) = points (vec a) (vec b)
+pairOf (PlanePoint p n q) = planePoint (vec p) (vec n) (vec q)
+pairOf (LinePoint p d q) = linePoint (vec p) (vec d) (vec q)
+pairOf (PlaneLine p n q d) = planeLine (vec p) (vec n) (vec q) (vec d)
+pairOf Other = other
+
 abbrev pub push3 : {C : Type 0} → Vec C → List C → List C
 push3 v l = v .x ∷ v .y ∷ v .z ∷ l
 
@@ -71,20 +110,17 @@ module _ {C : Type 0} (o : Ops C) where
   abbrev pub gap : Vec C → Vec C → Vec C → C → C
   gap q p n want = o .sub (dot o (subV o q p) n) want
 
+  abbrev pub mateOf : C → Pair C → List C
+  mateOf off (planes a na b nb) = push3 (addV o na nb) (gap b a na off ∷ [])
+  mateOf off (lines a da b db) = push3 (cross o da db) (push3 (perp (subV o b a) da) [])
+  mateOf off (points a b) = push3 (subV o b a) []
+  mateOf off (planePoint p n q) = gap q p n off ∷ []
+  mateOf off (linePoint p d q) = push3 (perp (subV o q p) d) []
+  mateOf off (planeLine p n q d) = dot o d n ∷ gap q p n off ∷ []
+  mateOf off other = []
+
   unfoldable pub mateRows : C → Geo C → Geo C → List C
-  mateRows off (plane a na) (plane b nb) = push3 (addV o na nb) (gap b a na off ∷ [])
-  mateRows off (plane p n) (line q d) = dot o d n ∷ gap q p n off ∷ []
-  mateRows off (plane p n) (point q) = gap q p n off ∷ []
-  mateRows off (plane p n) (circle c m r) = []
-  mateRows off (line q d) (plane p n) = dot o d n ∷ gap q p n off ∷ []
-  mateRows off (line a da) (line b db) = push3 (cross o da db) (push3 (perp (subV o b a) da) [])
-  mateRows off (line p d) (point q) = push3 (perp (subV o q p) d) []
-  mateRows off (line p d) (circle c m r) = []
-  mateRows off (point q) (plane p n) = gap q p n off ∷ []
-  mateRows off (point q) (line p d) = push3 (perp (subV o q p) d) []
-  mateRows off (point a) (point b) = push3 (subV o b a) []
-  mateRows off (point q) (circle c m r) = []
-  mateRows off (circle c m r) b = []
+  mateRows off a b = mateOf off (pair a b)
 
   unfoldable pub flushRows : C → Geo C → Geo C → List C
   flushRows off (plane a na) (plane b nb) = push3 (subV o na nb) (gap b a na off ∷ [])
@@ -109,20 +145,17 @@ module _ {C : Type 0} (o : Ops C) where
   unfoldable pub planeGap : C → C → C → Bool → C
   planeGap ra rb off inside = o .add (cond inside (o .neg (o .max ra rb)) (o .max ra rb)) off
 
+  abbrev pub planeTangentOf : C → Pair C → List C
+  planeTangentOf want (planes a na b nb) = []
+  planeTangentOf want (lines a da b db) = []
+  planeTangentOf want (points a b) = []
+  planeTangentOf want (planePoint p n c) = gap c p n want ∷ []
+  planeTangentOf want (linePoint p d q) = []
+  planeTangentOf want (planeLine p n q d) = dot o d n ∷ gap q p n want ∷ []
+  planeTangentOf want other = []
+
   unfoldable pub planeTangentRows : C → Geo C → Geo C → List C
-  planeTangentRows want (plane p n) (line q d) = dot o d n ∷ gap q p n want ∷ []
-  planeTangentRows want (plane p n) (point c) = gap c p n want ∷ []
-  planeTangentRows want (plane p n) (plane b m) = []
-  planeTangentRows want (plane p n) (circle c m r) = []
-  planeTangentRows want (line q d) (plane p n) = dot o d n ∷ gap q p n want ∷ []
-  planeTangentRows want (line q d) (line p n) = []
-  planeTangentRows want (line q d) (point p) = []
-  planeTangentRows want (line q d) (circle c m r) = []
-  planeTangentRows want (point c) (plane p n) = gap c p n want ∷ []
-  planeTangentRows want (point c) (line p n) = []
-  planeTangentRows want (point c) (point p) = []
-  planeTangentRows want (point c) (circle p m r) = []
-  planeTangentRows want (circle c m r) b = []
+  planeTangentRows want a b = planeTangentOf want (pair a b)
 
   -- a direction, and a point, mirrored in the plane through s0 with the normal ns
   abbrev pub mirrorTurn : Vec C → Vec C → Vec C
@@ -131,20 +164,17 @@ module _ {C : Type 0} (o : Ops C) where
   abbrev pub mirrorPlace : Vec C → Vec C → Vec C → Vec C
   mirrorPlace s0 ns p = subV o p (scaleV o ns (o .mul (o .of two64) (dot o (subV o p s0) ns)))
 
+  abbrev pub mirrorOf : Vec C → Vec C → Pair C → List C
+  mirrorOf s0 ns (planes a na b nb) = push3 (subV o nb (mirrorTurn ns na)) (dot o (subV o b (mirrorPlace s0 ns a)) nb ∷ [])
+  mirrorOf s0 ns (lines a da b db) = push3 (cross o db (mirrorTurn ns da)) (push3 (perp (subV o b (mirrorPlace s0 ns a)) db) [])
+  mirrorOf s0 ns (points a b) = push3 (subV o b (mirrorPlace s0 ns a)) []
+  mirrorOf s0 ns (planePoint p n q) = []
+  mirrorOf s0 ns (linePoint p d q) = []
+  mirrorOf s0 ns (planeLine p n q d) = []
+  mirrorOf s0 ns other = []
+
   unfoldable pub mirrorRows : Vec C → Vec C → Geo C → Geo C → List C
-  mirrorRows s0 ns (plane a na) (plane b nb) = push3 (subV o nb (mirrorTurn ns na)) (dot o (subV o b (mirrorPlace s0 ns a)) nb ∷ [])
-  mirrorRows s0 ns (plane a na) (line b db) = []
-  mirrorRows s0 ns (plane a na) (point b) = []
-  mirrorRows s0 ns (plane a na) (circle b n r) = []
-  mirrorRows s0 ns (line a da) (line b db) = push3 (cross o db (mirrorTurn ns da)) (push3 (perp (subV o b (mirrorPlace s0 ns a)) db) [])
-  mirrorRows s0 ns (line a da) (plane b db) = []
-  mirrorRows s0 ns (line a da) (point b) = []
-  mirrorRows s0 ns (line a da) (circle b n r) = []
-  mirrorRows s0 ns (point a) (point b) = push3 (subV o b (mirrorPlace s0 ns a)) []
-  mirrorRows s0 ns (point a) (plane b n) = []
-  mirrorRows s0 ns (point a) (line b n) = []
-  mirrorRows s0 ns (point a) (circle b n r) = []
-  mirrorRows s0 ns (circle a n r) b = []
+  mirrorRows s0 ns a b = mirrorOf s0 ns (pair a b)
 
   unfoldable pub symmetryRows : Geo C → Geo C → Geo C → List C
   unfolding mirrorRows
@@ -191,18 +221,18 @@ unfoldable pub tangentGap : Float → Float → Float → Bool → Bool → Floa
 unfolding planeGap roundGap
 tangentGap ra rb off inside isPlane = cond isPlane (planeGap doubles ra rb off inside) (roundGap ra rb off inside)
 
-unfoldable pub roundTangentRows : Float → Geo Float → Geo Float → List Float
-roundTangentRows want (line a da) (line b db) =
+abbrev pub roundTangentOf : Float → Pair Float → List Float
+roundTangentOf want (planes a na b nb) = []
+roundTangentOf want (lines a da b db) =
     push3 (cross doubles da db) (sub binary64 (len (perp doubles (subV doubles b a) da)) want ∷ [])
-roundTangentRows want (line p d) (point c) = sub binary64 (len (perp doubles (subV doubles c p) d)) want ∷ []
-roundTangentRows want (line p d) (plane q n) = []
-roundTangentRows want (line p d) (circle c n r) = []
-roundTangentRows want (point c) (line p d) = sub binary64 (len (perp doubles (subV doubles c p) d)) want ∷ []
-roundTangentRows want (point a) (point b) = sub binary64 (len (subV doubles b a)) want ∷ []
-roundTangentRows want (point c) (plane q n) = []
-roundTangentRows want (point c) (circle b n r) = []
-roundTangentRows want (plane p n) b = []
-roundTangentRows want (circle c n r) b = []
+roundTangentOf want (points a b) = sub binary64 (len (subV doubles b a)) want ∷ []
+roundTangentOf want (planePoint p n q) = []
+roundTangentOf want (linePoint p d c) = sub binary64 (len (perp doubles (subV doubles c p) d)) want ∷ []
+roundTangentOf want (planeLine p n q d) = []
+roundTangentOf want other = []
+
+unfoldable pub roundTangentRows : Float → Geo Float → Geo Float → List Float
+roundTangentRows want a b = roundTangentOf want (pair a b)
 
 unfoldable pub isPlane : {C : Type 0} → Geo C → Bool
 isPlane (plane p n) = true

@@ -257,57 +257,85 @@ pub fn is_plane(p: Prim) -> bool
     }
 }
 
-fn mate(offset: f64, a: Prim, b: Prim) -> Rows
-    ensures { λ r. ⌜ r ≡ spec.pack (spec.mateRows doubles offset (prim a) (prim b)) ⌝ }
+// Two primitives as the laws tell them apart, each by its point and its normal, direction or axis: two of a kind, a's before b's; or two kinds, whichever of
+// the two is a's.
+pub enum Pair {
+    Planes(Vec3, Vec3, Vec3, Vec3),
+    Lines(Vec3, Vec3, Vec3, Vec3),
+    Points(Vec3, Vec3),
+    PlanePoint(Vec3, Vec3, Vec3),
+    LinePoint(Vec3, Vec3, Vec3),
+    PlaneLine(Vec3, Vec3, Vec3, Vec3),
+    Other,
+}
+
+impl Pair {
+    pub fn of(a: Prim, b: Prim) -> Pair
+        ensures { λ r. ⌜ spec.pairOf r ≡ spec.pair (prim a) (prim b) ⌝ }
+    {
+        match a {
+            Prim::Plane {
+                point: pa,
+                normal: na,
+            } => match b {
+                Prim::Plane {
+                    point: pb,
+                    normal: nb,
+                } => Pair::Planes(pa, na, pb, nb),
+                Prim::Line { point: q, dir: d } => Pair::PlaneLine(pa, na, q, d),
+                Prim::Point(q) => Pair::PlanePoint(pa, na, q),
+                Prim::Circle {
+                    center: _,
+                    normal: _,
+                    radius: _,
+                } => Pair::Other,
+            },
+            Prim::Line { point: pa, dir: da } => match b {
+                Prim::Plane {
+                    point: p,
+                    normal: n,
+                } => Pair::PlaneLine(p, n, pa, da),
+                Prim::Line { point: pb, dir: db } => Pair::Lines(pa, da, pb, db),
+                Prim::Point(q) => Pair::LinePoint(pa, da, q),
+                Prim::Circle {
+                    center: _,
+                    normal: _,
+                    radius: _,
+                } => Pair::Other,
+            },
+            Prim::Point(q) => match b {
+                Prim::Plane {
+                    point: p,
+                    normal: n,
+                } => Pair::PlanePoint(p, n, q),
+                Prim::Line { point: p, dir: d } => Pair::LinePoint(p, d, q),
+                Prim::Point(pb) => Pair::Points(q, pb),
+                Prim::Circle {
+                    center: _,
+                    normal: _,
+                    radius: _,
+                } => Pair::Other,
+            },
+            Prim::Circle {
+                center: _,
+                normal: _,
+                radius: _,
+            } => Pair::Other,
+        }
+    }
+}
+
+fn mate(offset: f64, p: Pair) -> Rows
+    ensures { λ r. ⌜ r ≡ spec.pack (spec.mateOf doubles offset (spec.pairOf p)) ⌝ }
 {
-    match a {
-        Prim::Plane {
-            point: pa,
-            normal: na,
-        } => match b {
-            Prim::Plane {
-                point: pb,
-                normal: nb,
-            } => Rows::four(na.add(nb), gap(pb, pa, na, offset)),
-            Prim::Line { point: q, dir: d } => Rows::two(d.dot(na), gap(q, pa, na, offset)),
-            Prim::Point(q) => Rows::one(gap(q, pa, na, offset)),
-            Prim::Circle {
-                center: _,
-                normal: _,
-                radius: _,
-            } => Rows::none(),
-        },
-        Prim::Line { point: pa, dir: da } => match b {
-            Prim::Plane {
-                point: p,
-                normal: n,
-            } => Rows::two(da.dot(n), gap(pa, p, n, offset)),
-            Prim::Line { point: pb, dir: db } => Rows::six(da.cross(db), perp(pb.sub(pa), da)),
-            Prim::Point(q) => Rows::three(perp(q.sub(pa), da)),
-            Prim::Circle {
-                center: _,
-                normal: _,
-                radius: _,
-            } => Rows::none(),
-        },
-        Prim::Point(q) => match b {
-            Prim::Plane {
-                point: p,
-                normal: n,
-            } => Rows::one(gap(q, p, n, offset)),
-            Prim::Line { point: p, dir: d } => Rows::three(perp(q.sub(p), d)),
-            Prim::Point(pb) => Rows::three(pb.sub(q)),
-            Prim::Circle {
-                center: _,
-                normal: _,
-                radius: _,
-            } => Rows::none(),
-        },
-        Prim::Circle {
-            center: _,
-            normal: _,
-            radius: _,
-        } => Rows::none(),
+    match p {
+        Pair::Planes(a, na, b, nb) => Rows::four(na.add(nb), gap(b, a, na, offset)),
+        Pair::Lines(a, da, b, db) => Rows::six(da.cross(db), perp(b.sub(a), da)),
+        Pair::Points(a, b) => Rows::three(b.sub(a)),
+        Pair::PlanePoint(p, n, q) => Rows::one(gap(q, p, n, offset)),
+        Pair::LinePoint(p, d, q) => Rows::three(perp(q.sub(p), d)),
+        Pair::PlaneLine(p, n, q, d) => Rows::two(d.dot(n), gap(q, p, n, offset)),
+        Pair::Other => Rows::none(),
     }
 }
 
@@ -392,115 +420,46 @@ fn insert(offset: f64, aligned: bool, a: Prim, b: Prim) -> Rows
 }
 
 // A plane and a line or a point.
-fn plane_tangent(want: f64, a: Prim, b: Prim) -> Rows
-    ensures { λ r. ⌜ r ≡ spec.pack (spec.planeTangentRows doubles want (prim a) (prim b)) ⌝ }
+fn plane_tangent(want: f64, p: Pair) -> Rows
+    ensures { λ r. ⌜ r ≡ spec.pack (spec.planeTangentOf doubles want (spec.pairOf p)) ⌝ }
 {
-    match a {
-        Prim::Plane {
-            point: p,
-            normal: n,
-        } => match b {
-            Prim::Line { point: q, dir: d } => Rows::two(d.dot(n), gap(q, p, n, want)),
-            Prim::Point(c) => Rows::one(gap(c, p, n, want)),
-            Prim::Plane {
-                point: _,
-                normal: _,
-            } => Rows::none(),
-            Prim::Circle {
-                center: _,
-                normal: _,
-                radius: _,
-            } => Rows::none(),
-        },
-        Prim::Line { point: q, dir: d } => match b {
-            Prim::Plane {
-                point: p,
-                normal: n,
-            } => Rows::two(d.dot(n), gap(q, p, n, want)),
-            Prim::Line { point: _, dir: _ } => Rows::none(),
-            Prim::Point(_) => Rows::none(),
-            Prim::Circle {
-                center: _,
-                normal: _,
-                radius: _,
-            } => Rows::none(),
-        },
-        Prim::Point(c) => match b {
-            Prim::Plane {
-                point: p,
-                normal: n,
-            } => Rows::one(gap(c, p, n, want)),
-            Prim::Line { point: _, dir: _ } => Rows::none(),
-            Prim::Point(_) => Rows::none(),
-            Prim::Circle {
-                center: _,
-                normal: _,
-                radius: _,
-            } => Rows::none(),
-        },
-        Prim::Circle {
-            center: _,
-            normal: _,
-            radius: _,
-        } => Rows::none(),
+    match p {
+        Pair::Planes(_, _, _, _) => Rows::none(),
+        Pair::Lines(_, _, _, _) => Rows::none(),
+        Pair::Points(_, _) => Rows::none(),
+        Pair::PlanePoint(p, n, c) => Rows::one(gap(c, p, n, want)),
+        Pair::LinePoint(_, _, _) => Rows::none(),
+        Pair::PlaneLine(p, n, q, d) => Rows::two(d.dot(n), gap(q, p, n, want)),
+        Pair::Other => Rows::none(),
     }
 }
 
 // Two lines, two points, or one of each.
-fn round_tangent(want: f64, a: Prim, b: Prim) -> Rows
-    ensures { λ r. ⌜ r ≡ spec.pack (spec.roundTangentRows want (prim a) (prim b)) ⌝ }
+fn round_tangent(want: f64, p: Pair) -> Rows
+    ensures { λ r. ⌜ r ≡ spec.pack (spec.roundTangentOf want (spec.pairOf p)) ⌝ }
 {
-    match a {
-        Prim::Line { point: pa, dir: da } => match b {
-            Prim::Line { point: pb, dir: db } => {
-                Rows::four(da.cross(db), perp(pb.sub(pa), da).len() - want)
-            }
-            Prim::Point(c) => Rows::one(perp(c.sub(pa), da).len() - want),
-            Prim::Plane {
-                point: _,
-                normal: _,
-            } => Rows::none(),
-            Prim::Circle {
-                center: _,
-                normal: _,
-                radius: _,
-            } => Rows::none(),
-        },
-        Prim::Point(c) => match b {
-            Prim::Line { point: p, dir: d } => Rows::one(perp(c.sub(p), d).len() - want),
-            Prim::Point(pb) => Rows::one(pb.sub(c).len() - want),
-            Prim::Plane {
-                point: _,
-                normal: _,
-            } => Rows::none(),
-            Prim::Circle {
-                center: _,
-                normal: _,
-                radius: _,
-            } => Rows::none(),
-        },
-        Prim::Plane {
-            point: _,
-            normal: _,
-        } => Rows::none(),
-        Prim::Circle {
-            center: _,
-            normal: _,
-            radius: _,
-        } => Rows::none(),
+    match p {
+        Pair::Planes(_, _, _, _) => Rows::none(),
+        Pair::Lines(a, da, b, db) => Rows::four(da.cross(db), perp(b.sub(a), da).len() - want),
+        Pair::Points(a, b) => Rows::one(b.sub(a).len() - want),
+        Pair::PlanePoint(_, _, _) => Rows::none(),
+        Pair::LinePoint(p, d, c) => Rows::one(perp(c.sub(p), d).len() - want),
+        Pair::PlaneLine(_, _, _, _) => Rows::none(),
+        Pair::Other => Rows::none(),
     }
 }
 
 fn tangent(ra: f64, rb: f64, offset: f64, inside: bool, a: Prim, b: Prim) -> Rows
     ensures { λ r. ⌜ r ≡ spec.pack (spec.tangentRows ra rb offset inside (prim a) (prim b)) ⌝ }
 {
+    let p = Pair::of(a, b);
     if is_plane(a) {
-        return plane_tangent(plane_gap(ra, rb, offset, inside), a, b);
+        return plane_tangent(plane_gap(ra, rb, offset, inside), p);
     }
     if is_plane(b) {
-        return plane_tangent(plane_gap(ra, rb, offset, inside), a, b);
+        return plane_tangent(plane_gap(ra, rb, offset, inside), p);
     }
-    round_tangent(round_gap(ra, rb, offset, inside), a, b)
+    round_tangent(round_gap(ra, rb, offset, inside), p)
 }
 
 // A direction mirrored in the plane with the normal ns.
@@ -518,63 +477,23 @@ fn mirror_place(s0: Vec3, ns: Vec3, p: Vec3) -> Vec3
 }
 
 // a's geometry mirrored in the plane is b's.
-fn mirror(s0: Vec3, ns: Vec3, a: Prim, b: Prim) -> Rows
-    ensures { λ r. ⌜ r ≡ spec.pack (spec.mirrorRows doubles (vec s0) (vec ns) (prim a) (prim b)) ⌝ }
+fn mirror(s0: Vec3, ns: Vec3, p: Pair) -> Rows
+    ensures { λ r. ⌜ r ≡ spec.pack (spec.mirrorOf doubles (vec s0) (vec ns) (spec.pairOf p)) ⌝ }
 {
-    match a {
-        Prim::Plane {
-            point: pa,
-            normal: na,
-        } => match b {
-            Prim::Plane {
-                point: pb,
-                normal: nb,
-            } => Rows::four(
-                nb.sub(mirror_turn(ns, na)),
-                pb.sub(mirror_place(s0, ns, pa)).dot(nb),
-            ),
-            Prim::Line { point: _, dir: _ } => Rows::none(),
-            Prim::Point(_) => Rows::none(),
-            Prim::Circle {
-                center: _,
-                normal: _,
-                radius: _,
-            } => Rows::none(),
-        },
-        Prim::Line { point: pa, dir: da } => match b {
-            Prim::Line { point: pb, dir: db } => Rows::six(
-                db.cross(mirror_turn(ns, da)),
-                perp(pb.sub(mirror_place(s0, ns, pa)), db),
-            ),
-            Prim::Plane {
-                point: _,
-                normal: _,
-            } => Rows::none(),
-            Prim::Point(_) => Rows::none(),
-            Prim::Circle {
-                center: _,
-                normal: _,
-                radius: _,
-            } => Rows::none(),
-        },
-        Prim::Point(pa) => match b {
-            Prim::Point(pb) => Rows::three(pb.sub(mirror_place(s0, ns, pa))),
-            Prim::Plane {
-                point: _,
-                normal: _,
-            } => Rows::none(),
-            Prim::Line { point: _, dir: _ } => Rows::none(),
-            Prim::Circle {
-                center: _,
-                normal: _,
-                radius: _,
-            } => Rows::none(),
-        },
-        Prim::Circle {
-            center: _,
-            normal: _,
-            radius: _,
-        } => Rows::none(),
+    match p {
+        Pair::Planes(a, na, b, nb) => Rows::four(
+            nb.sub(mirror_turn(ns, na)),
+            b.sub(mirror_place(s0, ns, a)).dot(nb),
+        ),
+        Pair::Lines(a, da, b, db) => Rows::six(
+            db.cross(mirror_turn(ns, da)),
+            perp(b.sub(mirror_place(s0, ns, a)), db),
+        ),
+        Pair::Points(a, b) => Rows::three(b.sub(mirror_place(s0, ns, a))),
+        Pair::PlanePoint(_, _, _) => Rows::none(),
+        Pair::LinePoint(_, _, _) => Rows::none(),
+        Pair::PlaneLine(_, _, _, _) => Rows::none(),
+        Pair::Other => Rows::none(),
     }
 }
 
@@ -585,7 +504,7 @@ fn symmetry(s: Prim, a: Prim, b: Prim) -> Rows
         Prim::Plane {
             point: s0,
             normal: ns,
-        } => mirror(s0, ns, a, b),
+        } => mirror(s0, ns, Pair::of(a, b)),
         Prim::Line { point: _, dir: _ } => Rows::none(),
         Prim::Point(_) => Rows::none(),
         Prim::Circle {
@@ -698,7 +617,7 @@ pub fn residual(rel: Rel, qa: Pose, qb: Pose, qs: Pose) -> Rows
     let pa = a.placed(qa);
     let pb = b.placed(qb);
     match law {
-        Law::Mate { offset } => mate(offset, mate_prim(pa), mate_prim(pb)),
+        Law::Mate { offset } => mate(offset, Pair::of(mate_prim(pa), mate_prim(pb))),
         Law::Flush { offset } => flush(offset, pa, pb),
         Law::Angle {
             angle: want,

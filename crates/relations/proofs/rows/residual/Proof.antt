@@ -1,5 +1,6 @@
--- `relations::rows::residual` meets its contract. Assumes nothing.
-use Rattle.relations.specs.Rows.{residual, formulaRows}
+-- `relations::rows::residual` gives the rows of the definition: an arm tells the law, both ends are placed as the definition places them, and the law's own
+-- function promises its rows. Assumes nothing.
+use Rattle.relations.specs.Rows.{residual, formulaRows, mateRows}
 use borrow.Author.Needs.{needs}
 use Rattle.relations.proofs.Values.{joint-is, vec-is}
 use Rattle.relations.proofs.rows.residual.Statement.{statement}
@@ -19,6 +20,9 @@ mate-prim-requires c κs = tt
 
 mate-prim-requires-2 : tie.Need-mate-prim-requires-2
 mate-prim-requires-2 c κs = tt
+
+of-requires : tie.Need-of-requires
+of-requires c κs = tt
 
 mate-requires : tie.Need-mate-requires
 mate-requires c κs = tt
@@ -84,32 +88,93 @@ joint-requires : tie.Need-joint-requires
 joint-requires c κs = tt
 
 returns : tie.Need-returns
-unfolding residual formulaRows
-returns c = rw (c .before .before .before .before .law .given .1, c .mate .ensures, c .before .mate-prim2 .ensures, c .before .before .mate-prim .ensures, c .before .before .before .before .before .before .placed2 .ensures, c .before .before .before .before .before .before .before .placed .ensures)
+unfolding residual formulaRows mateRows
+returns c =
+    let pair = c .before in
+    let mateB = pair .before in
+    let mateA = mateB .before in
+    let law = mateA .before .before in
+    let placedB = law .before .before in
+    let placedA = placedB .before in
+    rw (
+      law .law .given .1,
+      c .mate .ensures,
+      pair .of .ensures,
+      mateB .mate-prim2 .ensures,
+      mateA .mate-prim .ensures,
+      placedB .placed2 .ensures,
+      placedA .placed .ensures,
+    )
 
 returns-2 : tie.Need-returns-2
 unfolding residual formulaRows
-returns-2 c = rw (c .before .before .law2 .given .1, c .flush .ensures, c .before .before .before .before .placed2 .ensures, c .before .before .before .before .before .placed .ensures)
+returns-2 c =
+    let law = c .before .before in
+    let placedB = law .before .before in
+    let placedA = placedB .before in
+    rw (law .law2 .given .1, c .flush .ensures, placedB .placed2 .ensures, placedA .placed .ensures)
 
 returns-3 : tie.Need-returns-3
-unfolding residual formulaRows
-returns-3 c = rw (c .before .before .before .before .before .before .law3 .given .1, c .angle .ensures, c .before .direction2 .ensures, c .before .before .direction .ensures, vec-is (c .before .before .before .apply .ensures), c .before .before .before .before .before .before .before .before .placed2 .ensures, c .before .before .before .before .before .before .before .before .before .placed .ensures)
+unfolding residual
+returns-3 c =
+    let directionB = c .before in
+    let directionA = directionB .before in
+    let apply = directionA .before in
+    let law = apply .before .before .before in
+    let placedB = law .before .before in
+    let placedA = placedB .before in
+    rw (
+      law .law3 .given .1,
+      c .angle .ensures,
+      directionB .direction2 .ensures,
+      directionA .direction .ensures,
+      vec-is (apply .apply .ensures),
+      placedB .placed2 .ensures,
+      placedA .placed .ensures,
+    )
 
 returns-4 : tie.Need-returns-4
 unfolding residual formulaRows
-returns-4 c = rw (c .before .before .law4 .given .1, c .insert .ensures, c .before .before .before .before .placed2 .ensures, c .before .before .before .before .before .placed .ensures)
+returns-4 c =
+    let law = c .before .before in
+    let placedB = law .before .before in
+    let placedA = placedB .before in
+    rw (law .law4 .given .1, c .insert .ensures, placedB .placed2 .ensures, placedA .placed .ensures)
 
 returns-5 : tie.Need-returns-5
-unfolding residual formulaRows
-returns-5 c = rw (c .before .before .law5 .given .1, c .tangent .ensures, c .before .before .before .before .placed2 .ensures, c .before .before .before .before .before .placed .ensures)
+unfolding residual
+returns-5 c =
+    let law = c .before .before in
+    let placedB = law .before .before in
+    let placedA = placedB .before in
+    rw (law .law5 .given .1, c .tangent .ensures, placedB .placed2 .ensures, placedA .placed .ensures)
 
 returns-6 : tie.Need-returns-6
 unfolding residual formulaRows
-returns-6 c = rw (c .before .before .before .before .before .law6 .given .1, c .symmetry .ensures, c .before .mate-prim4 .ensures, c .before .before .mate-prim3 .ensures, c .before .before .before .placed3 .ensures, c .before .before .before .before .before .before .before .placed2 .ensures, c .before .before .before .before .before .before .before .before .placed .ensures)
+returns-6 c =
+    let mateB = c .before in
+    let mateA = mateB .before in
+    let placedS = mateA .before in
+    let law = placedS .before .before in
+    let placedB = law .before .before in
+    let placedA = placedB .before in
+    rw (
+      law .law6 .given .1,
+      c .symmetry .ensures,
+      mateB .mate-prim4 .ensures,
+      mateA .mate-prim3 .ensures,
+      placedS .placed3 .ensures,
+      placedB .placed2 .ensures,
+      placedA .placed .ensures,
+    )
 
 returns-7 : tie.Need-returns-7
-unfolding residual formulaRows
-returns-7 c = rw (c .before .before .before .before .law7 .given .1, c .joint .ensures, joint-is (c .before .joint-at2 .ensures), joint-is (c .before .before .joint-at .ensures))
+unfolding residual
+returns-7 c =
+    let jointB = c .before in
+    let jointA = jointB .before in
+    let law = jointA .before .before in
+    rw (law .law7 .given .1, c .joint .ensures, joint-is (jointB .joint-at2 .ensures), joint-is (jointA .joint-at .ensures))
 
 pub residual-spec : {M : Type 1} → statement M
 residual-spec =
@@ -120,6 +185,7 @@ residual-spec =
     enum-known-law
     mate-prim-requires
     mate-prim-requires-2
+    of-requires
     mate-requires
     enum-known-law-2
     flush-requires
