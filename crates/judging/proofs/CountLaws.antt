@@ -11,14 +11,14 @@ use Rattle.numbers.specs.Ops.{doubles}
 use Rattle.vectors.specs.Vec.{Vec}
 use Rattle.relations.specs.Geometry.{Geo, plane, line, point, circle, Pose, placed, directionOf}
 use Rattle.relations.specs.Model.{End, Law, mate, flush, angle, insert, tangent, symmetry, joint}
-use Rattle.relations.specs.Rows.{isPlane, matePrim, mateRows, flushRows, insertRows, planeTangentRows, roundTangentRows, tangentRows, mirrorRows, symmetryRows, formulaRows, JointAt, jointRows, angleRows, residual, rowsOf, pack}
+use Rattle.relations.specs.Rows.{Pair, planes, lines, points, planePoint, linePoint, planeLine, other, pair, isPlane, matePrim, mateRows, flushRows, insertRows, planeTangentRows, roundTangentRows, tangentRows, mirrorRows, symmetryRows, formulaRows, JointAt, jointRows, angleRows, residual, rowsOf, pack}
 use Rattle.judging.specs.Judge.{isCircle, hasDirection}
 use Rattle.judging.specs.Count.{mateCount, tangentCount, mirrorCount, jointCount, rowCount}
 use Rattle.relations.specs.declared.model.JointKind.{JointKind}
 use Rattle.relations.specs.declared.model.JointKind.the-variants.{Rigid, Revolute, Slider, Cylindrical, Planar, Ball}
 
 module _ (qa qb : Pose Float) where
-  mate-length : (off : Float) (a b : Geo Float) → length (mateRows doubles off (matePrim (placed doubles qa a)) (matePrim (placed doubles qb b))) ≡ mateCount (matePrim a) (matePrim b)
+  mate-length : (off : Float) (a b : Geo Float) → length (mateRows doubles off (matePrim (placed doubles qa a)) (matePrim (placed doubles qb b))) ≡ mateCount (pair (matePrim a) (matePrim b))
   unfolding placed matePrim mateRows mateCount
   mate-length off (plane p n) (plane q m) = refl
   mate-length off (plane p n) (line q e) = refl
@@ -76,7 +76,7 @@ module _ (qa qb : Pose Float) where
   angle-length want axis (circle c n r) (point q) = refl
   angle-length want axis (circle c n r) (circle k m s) = refl
 
-  tangent-length : (ra rb off : Float) (inside : Bool) (a b : Geo Float) → length (tangentRows ra rb off inside (placed doubles qa a) (placed doubles qb b)) ≡ tangentCount a b
+  tangent-length : (ra rb off : Float) (inside : Bool) (a b : Geo Float) → length (tangentRows ra rb off inside (placed doubles qa a) (placed doubles qb b)) ≡ tangentCount (pair a b)
   unfolding placed isPlane tangentRows planeTangentRows roundTangentRows tangentCount
   tangent-length ra rb off inside (plane p n) (plane q m) = refl
   tangent-length ra rb off inside (plane p n) (line q e) = refl
@@ -95,7 +95,7 @@ module _ (qa qb : Pose Float) where
   tangent-length ra rb off inside (circle c n r) (point q) = refl
   tangent-length ra rb off inside (circle c n r) (circle k m s) = refl
 
-  mirror-length : (s0 ns : Vec Float) (a b : Geo Float) → length (mirrorRows doubles s0 ns (matePrim (placed doubles qa a)) (matePrim (placed doubles qb b))) ≡ mirrorCount (matePrim a) (matePrim b)
+  mirror-length : (s0 ns : Vec Float) (a b : Geo Float) → length (mirrorRows doubles s0 ns (matePrim (placed doubles qa a)) (matePrim (placed doubles qb b))) ≡ mirrorCount (pair (matePrim a) (matePrim b))
   unfolding placed matePrim mirrorRows mirrorCount
   mirror-length s0 ns (plane p n) (plane q m) = refl
   mirror-length s0 ns (plane p n) (line q e) = refl
@@ -114,7 +114,7 @@ module _ (qa qb : Pose Float) where
   mirror-length s0 ns (circle c n r) (point q) = refl
   mirror-length s0 ns (circle c n r) (circle k m s) = refl
 
-  symmetry-length : (qs : Pose Float) (s a b : Geo Float) → length (symmetryRows doubles (placed doubles qs s) (matePrim (placed doubles qa a)) (matePrim (placed doubles qb b))) ≡ cond (isPlane s) (mirrorCount (matePrim a) (matePrim b)) 0
+  symmetry-length : (qs : Pose Float) (s a b : Geo Float) → length (symmetryRows doubles (placed doubles qs s) (matePrim (placed doubles qa a)) (matePrim (placed doubles qb b))) ≡ cond (isPlane s) (mirrorCount (pair (matePrim a) (matePrim b))) 0
   unfolding placed symmetryRows isPlane
   symmetry-length qs (plane p n) a b = mirror-length _ _ a b
   symmetry-length qs (line p d) a b = refl
@@ -147,53 +147,35 @@ pick-le : (t : Bool) {x y : ℕ} → x ≤ 7 → y ≤ 7 → cond t x y ≤ 7
 pick-le true h k = h
 pick-le false h k = k
 
-mate-le : (a b : Geo Float) → mateCount a b ≤ 7
+mate-le : (p : Pair Float) → mateCount p ≤ 7
 unfolding mateCount
-mate-le (plane p n) (plane q m) = omega arith
-mate-le (plane p n) (line q e) = omega arith
-mate-le (plane p n) (point q) = omega arith
-mate-le (plane p n) (circle k m s) = omega arith
-mate-le (line p d) (plane q m) = omega arith
-mate-le (line p d) (line q e) = omega arith
-mate-le (line p d) (point q) = omega arith
-mate-le (line p d) (circle k m s) = omega arith
-mate-le (point p) (plane q m) = omega arith
-mate-le (point p) (line q e) = omega arith
-mate-le (point p) (point q) = omega arith
-mate-le (point p) (circle k m s) = omega arith
-mate-le (circle c n r) b = omega arith
+mate-le (planes a na b nb) = omega arith
+mate-le (lines a da b db) = omega arith
+mate-le (points a b) = omega arith
+mate-le (planePoint p n q) = omega arith
+mate-le (linePoint p d q) = omega arith
+mate-le (planeLine p n q d) = omega arith
+mate-le other = omega arith
 
-tangent-le : (a b : Geo Float) → tangentCount a b ≤ 7
+tangent-le : (p : Pair Float) → tangentCount p ≤ 7
 unfolding tangentCount
-tangent-le (plane p n) (plane q m) = omega arith
-tangent-le (plane p n) (line q e) = omega arith
-tangent-le (plane p n) (point q) = omega arith
-tangent-le (plane p n) (circle k m s) = omega arith
-tangent-le (line p d) (plane q m) = omega arith
-tangent-le (line p d) (line q e) = omega arith
-tangent-le (line p d) (point q) = omega arith
-tangent-le (line p d) (circle k m s) = omega arith
-tangent-le (point p) (plane q m) = omega arith
-tangent-le (point p) (line q e) = omega arith
-tangent-le (point p) (point q) = omega arith
-tangent-le (point p) (circle k m s) = omega arith
-tangent-le (circle c n r) b = omega arith
+tangent-le (planes a na b nb) = omega arith
+tangent-le (lines a da b db) = omega arith
+tangent-le (points a b) = omega arith
+tangent-le (planePoint p n q) = omega arith
+tangent-le (linePoint p d q) = omega arith
+tangent-le (planeLine p n q d) = omega arith
+tangent-le other = omega arith
 
-mirror-le : (a b : Geo Float) → mirrorCount a b ≤ 7
+mirror-le : (p : Pair Float) → mirrorCount p ≤ 7
 unfolding mirrorCount
-mirror-le (plane p n) (plane q m) = omega arith
-mirror-le (plane p n) (line q e) = omega arith
-mirror-le (plane p n) (point q) = omega arith
-mirror-le (plane p n) (circle k m s) = omega arith
-mirror-le (line p d) (plane q m) = omega arith
-mirror-le (line p d) (line q e) = omega arith
-mirror-le (line p d) (point q) = omega arith
-mirror-le (line p d) (circle k m s) = omega arith
-mirror-le (point p) (plane q m) = omega arith
-mirror-le (point p) (line q e) = omega arith
-mirror-le (point p) (point q) = omega arith
-mirror-le (point p) (circle k m s) = omega arith
-mirror-le (circle c n r) b = omega arith
+mirror-le (planes a na b nb) = omega arith
+mirror-le (lines a da b db) = omega arith
+mirror-le (points a b) = omega arith
+mirror-le (planePoint p n q) = omega arith
+mirror-le (linePoint p d q) = omega arith
+mirror-le (planeLine p n q d) = omega arith
+mirror-le other = omega arith
 
 joint-le : (kind : JointKind) → jointCount kind ≤ 7
 unfolding jointCount
@@ -206,12 +188,12 @@ joint-le Ball = omega arith
 
 pub row-count-le : (law : Law) (a b : Geo Float) → rowCount law a b ≤ 7
 unfolding rowCount
-row-count-le (mate off) a b = mate-le (matePrim a) (matePrim b)
+row-count-le (mate off) a b = mate-le (pair (matePrim a) (matePrim b))
 row-count-le (flush off) a b = pick-le (isPlane a && isPlane b) (omega arith) (omega arith)
 row-count-le (angle want reference) a b = pick-le (hasDirection a && hasDirection b) (omega arith) (omega arith)
 row-count-le (insert off aligned) a b = pick-le (isCircle a && isCircle b) (omega arith) (omega arith)
-row-count-le (tangent off inside) a b = tangent-le a b
-row-count-le (symmetry p) a b = pick-le (isPlane (p .prim)) (mirror-le (matePrim a) (matePrim b)) (omega arith)
+row-count-le (tangent off inside) a b = tangent-le (pair a b)
+row-count-le (symmetry p) a b = pick-le (isPlane (p .prim)) (mirror-le (pair (matePrim a) (matePrim b))) (omega arith)
 row-count-le (joint kind flip off want) a b = joint-le kind
 
 -- seven rows or fewer are packed whole

@@ -7,7 +7,7 @@ use Rattle.numbers.specs.Double.{zero64}
 use Rattle.vectors.specs.Vec.{subV, dot}
 use Rattle.relations.specs.Geometry.{Geo, plane, line, point, circle, Pose}
 use Rattle.relations.specs.Model.{End, Law, mate, flush, angle, insert, tangent, symmetry, joint, Rel}
-use Rattle.relations.specs.Rows.{isPlane, JointAt, jointAt, turn}
+use Rattle.relations.specs.Rows.{Pair, planes, lines, points, planePoint, linePoint, planeLine, other, pair, matePrim, isPlane, JointAt, jointAt, turn}
 use Rattle.judging.specs.declared.judge.Reading.{Reading as ReadingStruct}
 
 -- ---- which pairs suit a law
@@ -24,24 +24,15 @@ hasDirection (line p d) = true
 hasDirection (point p) = false
 hasDirection (circle c n r) = true
 
--- two planes, two lines or two points; a circle counts as its axis
-unfoldable pub twoOfAKind : Geo Float → Geo Float → Bool
-twoOfAKind (plane p n) (plane q m) = true
-twoOfAKind (plane p n) (line q d) = false
-twoOfAKind (plane p n) (point q) = false
-twoOfAKind (plane p n) (circle c m r) = false
-twoOfAKind (line p d) (plane q m) = false
-twoOfAKind (line p d) (line q e) = true
-twoOfAKind (line p d) (point q) = false
-twoOfAKind (line p d) (circle c m r) = true
-twoOfAKind (point p) (plane q m) = false
-twoOfAKind (point p) (line q d) = false
-twoOfAKind (point p) (point q) = true
-twoOfAKind (point p) (circle c m r) = false
-twoOfAKind (circle c n r) (plane q m) = false
-twoOfAKind (circle c n r) (line q d) = true
-twoOfAKind (circle c n r) (point q) = false
-twoOfAKind (circle c n r) (circle d m s) = true
+-- two planes, two lines or two points
+unfoldable pub twoOfAKind : Pair Float → Bool
+twoOfAKind (planes a na b nb) = true
+twoOfAKind (lines a da b db) = true
+twoOfAKind (points a b) = true
+twoOfAKind (planePoint p n q) = false
+twoOfAKind (linePoint p d q) = false
+twoOfAKind (planeLine p n q d) = false
+twoOfAKind other = false
 
 -- not two planes, and no circle
 unfoldable pub suitsTangent : Geo Float → Geo Float → Bool
@@ -53,7 +44,7 @@ suits (flush off) a b = isPlane a && isPlane b
 suits (angle want reference) a b = hasDirection a && hasDirection b
 suits (insert off aligned) a b = isCircle a && isCircle b
 suits (tangent off inside) a b = suitsTangent a b
-suits (symmetry p) a b = isPlane (p .prim) && twoOfAKind a b
+suits (symmetry p) a b = isPlane (p .prim) && twoOfAKind (pair (matePrim a) (matePrim b))
 suits (joint kind flip off want) a b = true
 
 -- `check`: 0 where the pair suits the law, else 11

@@ -2,6 +2,7 @@
 ghost use mathlib.Core.Path.{_≡_};
 ghost use Rattle.relations.specs.Geometry.{prim};
 ghost use Rattle.relations.specs.Model.{lawOf, endOf};
+ghost use Rattle.relations.specs.Rows.{pairOf};
 ghost use Rattle.judging.specs.Count as spec;
 use crate::judge::has_direction;
 use crate::judge::is_circle;
@@ -9,168 +10,49 @@ use relations::geometry::Prim;
 use relations::model::JointKind;
 use relations::model::Law;
 use relations::model::Rel;
+use relations::rows::Pair;
 use relations::rows::is_plane;
 use relations::rows::mate_prim;
 
-fn mate_count(a: Prim, b: Prim) -> usize
-    ensures { λ r. ⌜ r ≡ spec.mateCount (prim a) (prim b) ⌝ }
+fn mate_count(p: Pair) -> usize
+    ensures { λ r. ⌜ r ≡ spec.mateCount (pairOf p) ⌝ }
 {
-    match a {
-        Prim::Plane {
-            point: _,
-            normal: _,
-        } => match b {
-            Prim::Plane {
-                point: _,
-                normal: _,
-            } => 4,
-            Prim::Line { point: _, dir: _ } => 2,
-            Prim::Point(_) => 1,
-            Prim::Circle {
-                center: _,
-                normal: _,
-                radius: _,
-            } => 0,
-        },
-        Prim::Line { point: _, dir: _ } => match b {
-            Prim::Plane {
-                point: _,
-                normal: _,
-            } => 2,
-            Prim::Line { point: _, dir: _ } => 6,
-            Prim::Point(_) => 3,
-            Prim::Circle {
-                center: _,
-                normal: _,
-                radius: _,
-            } => 0,
-        },
-        Prim::Point(_) => match b {
-            Prim::Plane {
-                point: _,
-                normal: _,
-            } => 1,
-            Prim::Line { point: _, dir: _ } => 3,
-            Prim::Point(_) => 3,
-            Prim::Circle {
-                center: _,
-                normal: _,
-                radius: _,
-            } => 0,
-        },
-        Prim::Circle {
-            center: _,
-            normal: _,
-            radius: _,
-        } => 0,
+    match p {
+        Pair::Planes(_, _, _, _) => 4,
+        Pair::Lines(_, _, _, _) => 6,
+        Pair::Points(_, _) => 3,
+        Pair::PlanePoint(_, _, _) => 1,
+        Pair::LinePoint(_, _, _) => 3,
+        Pair::PlaneLine(_, _, _, _) => 2,
+        Pair::Other => 0,
     }
 }
 
-fn tangent_count(a: Prim, b: Prim) -> usize
-    ensures { λ r. ⌜ r ≡ spec.tangentCount (prim a) (prim b) ⌝ }
+fn tangent_count(p: Pair) -> usize
+    ensures { λ r. ⌜ r ≡ spec.tangentCount (pairOf p) ⌝ }
 {
-    match a {
-        Prim::Plane {
-            point: _,
-            normal: _,
-        } => match b {
-            Prim::Plane {
-                point: _,
-                normal: _,
-            } => 0,
-            Prim::Line { point: _, dir: _ } => 2,
-            Prim::Point(_) => 1,
-            Prim::Circle {
-                center: _,
-                normal: _,
-                radius: _,
-            } => 0,
-        },
-        Prim::Line { point: _, dir: _ } => match b {
-            Prim::Plane {
-                point: _,
-                normal: _,
-            } => 2,
-            Prim::Line { point: _, dir: _ } => 4,
-            Prim::Point(_) => 1,
-            Prim::Circle {
-                center: _,
-                normal: _,
-                radius: _,
-            } => 0,
-        },
-        Prim::Point(_) => match b {
-            Prim::Plane {
-                point: _,
-                normal: _,
-            } => 1,
-            Prim::Line { point: _, dir: _ } => 1,
-            Prim::Point(_) => 1,
-            Prim::Circle {
-                center: _,
-                normal: _,
-                radius: _,
-            } => 0,
-        },
-        Prim::Circle {
-            center: _,
-            normal: _,
-            radius: _,
-        } => 0,
+    match p {
+        Pair::Planes(_, _, _, _) => 0,
+        Pair::Lines(_, _, _, _) => 4,
+        Pair::Points(_, _) => 1,
+        Pair::PlanePoint(_, _, _) => 1,
+        Pair::LinePoint(_, _, _) => 1,
+        Pair::PlaneLine(_, _, _, _) => 2,
+        Pair::Other => 0,
     }
 }
 
-fn mirror_count(a: Prim, b: Prim) -> usize
-    ensures { λ r. ⌜ r ≡ spec.mirrorCount (prim a) (prim b) ⌝ }
+fn mirror_count(p: Pair) -> usize
+    ensures { λ r. ⌜ r ≡ spec.mirrorCount (pairOf p) ⌝ }
 {
-    match a {
-        Prim::Plane {
-            point: _,
-            normal: _,
-        } => match b {
-            Prim::Plane {
-                point: _,
-                normal: _,
-            } => 4,
-            Prim::Line { point: _, dir: _ } => 0,
-            Prim::Point(_) => 0,
-            Prim::Circle {
-                center: _,
-                normal: _,
-                radius: _,
-            } => 0,
-        },
-        Prim::Line { point: _, dir: _ } => match b {
-            Prim::Plane {
-                point: _,
-                normal: _,
-            } => 0,
-            Prim::Line { point: _, dir: _ } => 6,
-            Prim::Point(_) => 0,
-            Prim::Circle {
-                center: _,
-                normal: _,
-                radius: _,
-            } => 0,
-        },
-        Prim::Point(_) => match b {
-            Prim::Plane {
-                point: _,
-                normal: _,
-            } => 0,
-            Prim::Line { point: _, dir: _ } => 0,
-            Prim::Point(_) => 3,
-            Prim::Circle {
-                center: _,
-                normal: _,
-                radius: _,
-            } => 0,
-        },
-        Prim::Circle {
-            center: _,
-            normal: _,
-            radius: _,
-        } => 0,
+    match p {
+        Pair::Planes(_, _, _, _) => 4,
+        Pair::Lines(_, _, _, _) => 6,
+        Pair::Points(_, _) => 3,
+        Pair::PlanePoint(_, _, _) => 0,
+        Pair::LinePoint(_, _, _) => 0,
+        Pair::PlaneLine(_, _, _, _) => 0,
+        Pair::Other => 0,
     }
 }
 
@@ -191,7 +73,7 @@ fn law_count(law: Law, a: Prim, b: Prim) -> usize
     ensures { λ r. ⌜ r ≡ spec.rowCount (lawOf law) (prim a) (prim b) ⌝ }
 {
     match law {
-        Law::Mate { offset: _ } => mate_count(mate_prim(a), mate_prim(b)),
+        Law::Mate { offset: _ } => mate_count(Pair::of(mate_prim(a), mate_prim(b))),
         Law::Flush { offset: _ } => {
             if is_plane(a) {
                 if is_plane(b) { 4 } else { 0 }
@@ -222,11 +104,11 @@ fn law_count(law: Law, a: Prim, b: Prim) -> usize
         Law::Tangent {
             offset: _,
             inside: _,
-        } => tangent_count(a, b),
+        } => tangent_count(Pair::of(a, b)),
         Law::Symmetry { plane } => {
             let p = plane.prim;
             if is_plane(p) {
-                mirror_count(mate_prim(a), mate_prim(b))
+                mirror_count(Pair::of(mate_prim(a), mate_prim(b)))
             } else {
                 0
             }

@@ -3,6 +3,7 @@ ghost use mathlib.Core.Path.{_≡_};
 ghost use mathlib.Core.Bool.{_&&_, _||_};
 ghost use Rattle.relations.specs.Geometry.{prim};
 ghost use Rattle.relations.specs.Model.{endOf, lawOf, relOf, pose};
+ghost use Rattle.relations.specs.Rows.{pairOf};
 ghost use Rattle.judging.specs.Judge as spec;
 use relations::geometry::Prim;
 use relations::model::End;
@@ -10,7 +11,9 @@ use relations::model::Law;
 use relations::model::Pose;
 use relations::model::Rel;
 use relations::rows;
+use relations::rows::Pair;
 use relations::rows::is_plane;
+use relations::rows::mate_prim;
 
 pub fn is_circle(p: Prim) -> bool
     ensures { λ r. ⌜ r ≡ spec.isCircle (prim p) ⌝ }
@@ -66,70 +69,18 @@ fn line_or_point(p: Prim) -> bool
     }
 }
 
-// Two planes, two lines or two points; a circle counts as its axis.
-fn two_of_a_kind(a: Prim, b: Prim) -> bool
-    ensures { λ r. ⌜ r ≡ spec.twoOfAKind (prim a) (prim b) ⌝ }
+// Two planes, two lines or two points.
+fn two_of_a_kind(p: Pair) -> bool
+    ensures { λ r. ⌜ r ≡ spec.twoOfAKind (pairOf p) ⌝ }
 {
-    match a {
-        Prim::Plane {
-            point: _,
-            normal: _,
-        } => match b {
-            Prim::Plane {
-                point: _,
-                normal: _,
-            } => true,
-            Prim::Line { point: _, dir: _ } => false,
-            Prim::Point(_) => false,
-            Prim::Circle {
-                center: _,
-                normal: _,
-                radius: _,
-            } => false,
-        },
-        Prim::Line { point: _, dir: _ } => match b {
-            Prim::Plane {
-                point: _,
-                normal: _,
-            } => false,
-            Prim::Line { point: _, dir: _ } => true,
-            Prim::Point(_) => false,
-            Prim::Circle {
-                center: _,
-                normal: _,
-                radius: _,
-            } => true,
-        },
-        Prim::Point(_) => match b {
-            Prim::Plane {
-                point: _,
-                normal: _,
-            } => false,
-            Prim::Line { point: _, dir: _ } => false,
-            Prim::Point(_) => true,
-            Prim::Circle {
-                center: _,
-                normal: _,
-                radius: _,
-            } => false,
-        },
-        Prim::Circle {
-            center: _,
-            normal: _,
-            radius: _,
-        } => match b {
-            Prim::Plane {
-                point: _,
-                normal: _,
-            } => false,
-            Prim::Line { point: _, dir: _ } => true,
-            Prim::Point(_) => false,
-            Prim::Circle {
-                center: _,
-                normal: _,
-                radius: _,
-            } => true,
-        },
+    match p {
+        Pair::Planes(_, _, _, _) => true,
+        Pair::Lines(_, _, _, _) => true,
+        Pair::Points(_, _) => true,
+        Pair::PlanePoint(_, _, _) => false,
+        Pair::LinePoint(_, _, _) => false,
+        Pair::PlaneLine(_, _, _, _) => false,
+        Pair::Other => false,
     }
 }
 
@@ -173,7 +124,7 @@ fn suits(law: Law, a: Prim, b: Prim) -> bool
         Law::Symmetry { plane } => {
             let p = plane.prim;
             if is_plane(p) {
-                two_of_a_kind(a, b)
+                two_of_a_kind(Pair::of(mate_prim(a), mate_prim(b)))
             } else {
                 false
             }

@@ -1,4 +1,4 @@
--- `judging::count::mate_count` meets its contract. Assumes nothing.
+-- `judging::count::mate_count` is the table `mateCount`: each arm tells the pair, and there the table computes to the arm's number. Assumes nothing.
 use Rattle.judging.specs.Count.{mateCount}
 use borrow.Author.Needs.{needs}
 use Rattle.judging.proofs.count.mate_count.Statement.{statement}
@@ -25,84 +25,33 @@ enum-told-6 c = search needs
 enum-told-7 : tie.Need-enum-told-7
 enum-told-7 c = search needs
 
-enum-told-8 : tie.Need-enum-told-8
-enum-told-8 c = search needs
-
-enum-told-9 : tie.Need-enum-told-9
-enum-told-9 c = search needs
-
-enum-told-10 : tie.Need-enum-told-10
-enum-told-10 c = search needs
-
-enum-told-11 : tie.Need-enum-told-11
-enum-told-11 c = search needs
-
-enum-told-12 : tie.Need-enum-told-12
-enum-told-12 c = search needs
-
-enum-told-13 : tie.Need-enum-told-13
-enum-told-13 c = search needs
-
-enum-told-14 : tie.Need-enum-told-14
-enum-told-14 c = search needs
-
-enum-told-15 : tie.Need-enum-told-15
-enum-told-15 c = search needs
-
-enum-told-16 : tie.Need-enum-told-16
-enum-told-16 c = search needs
-
 returns : tie.Need-returns
 unfolding mateCount
-returns c = rw (c .enum-told2 .given .1, c .before .before .enum-told .given .1)
+returns c = rw (c .enum-told .given .1)
 
 returns-2 : tie.Need-returns-2
 unfolding mateCount
-returns-2 c = rw (c .enum-told3 .given .1, c .before .before .enum-told .given .1)
+returns-2 c = rw (c .enum-told2 .given .1)
 
 returns-3 : tie.Need-returns-3
 unfolding mateCount
-returns-3 c = rw (c .enum-told4 .given .1, c .before .before .enum-told .given .1)
+returns-3 c = rw (c .enum-told3 .given .1)
 
 returns-4 : tie.Need-returns-4
 unfolding mateCount
-returns-4 c = rw (c .enum-told5 .given .1, c .before .before .enum-told .given .1)
+returns-4 c = rw (c .enum-told4 .given .1)
 
 returns-5 : tie.Need-returns-5
 unfolding mateCount
-returns-5 c = rw (c .enum-told7 .given .1, c .before .before .enum-told6 .given .1)
+returns-5 c = rw (c .enum-told5 .given .1)
 
 returns-6 : tie.Need-returns-6
 unfolding mateCount
-returns-6 c = rw (c .enum-told8 .given .1, c .before .before .enum-told6 .given .1)
+returns-6 c = rw (c .enum-told6 .given .1)
 
 returns-7 : tie.Need-returns-7
 unfolding mateCount
-returns-7 c = rw (c .enum-told9 .given .1, c .before .before .enum-told6 .given .1)
-
-returns-8 : tie.Need-returns-8
-unfolding mateCount
-returns-8 c = rw (c .enum-told10 .given .1, c .before .before .enum-told6 .given .1)
-
-returns-9 : tie.Need-returns-9
-unfolding mateCount
-returns-9 c = rw (c .enum-told12 .given .1, c .before .before .enum-told11 .given .1)
-
-returns-10 : tie.Need-returns-10
-unfolding mateCount
-returns-10 c = rw (c .enum-told13 .given .1, c .before .before .enum-told11 .given .1)
-
-returns-11 : tie.Need-returns-11
-unfolding mateCount
-returns-11 c = rw (c .enum-told14 .given .1, c .before .before .enum-told11 .given .1)
-
-returns-12 : tie.Need-returns-12
-unfolding mateCount
-returns-12 c = rw (c .enum-told15 .given .1, c .before .before .enum-told11 .given .1)
-
-returns-13 : tie.Need-returns-13
-unfolding mateCount
-returns-13 c = rw (c .enum-told16 .given .1)
+returns-7 c = rw (c .enum-told7 .given .1)
 
 pub mate-count-spec : {M : Type 1} → statement M
 mate-count-spec =
@@ -115,25 +64,10 @@ mate-count-spec =
     enum-told-5
     enum-told-6
     enum-told-7
-    enum-told-8
-    enum-told-9
-    enum-told-10
-    enum-told-11
-    enum-told-12
-    enum-told-13
-    enum-told-14
-    enum-told-15
-    enum-told-16
     returns
     returns-2
     returns-3
     returns-4
     returns-5
     returns-6
-    returns-7
-    returns-8
-    returns-9
-    returns-10
-    returns-11
-    returns-12
-    returns-13)
+    returns-7)
