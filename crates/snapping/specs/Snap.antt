@@ -9,7 +9,7 @@ use Rattle.vectors.specs.Space.{Frame}
 use Rattle.vectors.specs.Math.{Mat, mat, identity, apply, mulM, transpose, exp, rotationBetween, ofFrame, frameOf}
 use Rattle.relations.specs.Geometry.{Geo, plane, line, point, circle, Pose, place, placed, directionOf, frameOr}
 use Rattle.relations.specs.Model.{End, Law, mate, flush, angle, insert, tangent, symmetry, joint, Rel}
-use Rattle.relations.specs.Rows.{matePrim, perp, turn, planeGap, JointAt, jointAt}
+use Rattle.relations.specs.Rows.{Pair, planes, lines, points, planePoint, linePoint, planeLine, other, pair, matePrim, perp, turn, planeGap, JointAt, jointAt}
 use Rattle.snapping.specs.declared.snap.Motion.{Motion as MotionStruct}
 use Rattle.relations.specs.declared.model.JointKind.{JointKind}
 use Rattle.relations.specs.declared.model.JointKind.the-variants.{Rigid, Revolute, Slider, Cylindrical, Planar, Ball}
@@ -49,17 +49,14 @@ abbrev pub along : Bool → Vec Float → Vec Float
 along same v = cond same v (negV doubles v)
 
 -- where a mate turns b's direction
-unfoldable pub mateTarget : Geo Float → Geo Float → Vec Float → Vec Float → Option (Vec Float)
-mateTarget (plane p n) (plane q m) da db = some (negV doubles da)
-mateTarget (plane p n) (line q d) da db = none
-mateTarget (plane p n) (point q) da db = none
-mateTarget (plane p n) (circle c m r) da db = none
-mateTarget (line p d) (line q e) da db = some (sameSide da db)
-mateTarget (line p d) (plane q m) da db = none
-mateTarget (line p d) (point q) da db = none
-mateTarget (line p d) (circle c m r) da db = none
-mateTarget (point p) b da db = none
-mateTarget (circle c n r) b da db = none
+unfoldable pub mateTarget : Pair Float → Vec Float → Vec Float → Option (Vec Float)
+mateTarget (planes p n q m) da db = some (negV doubles da)
+mateTarget (lines p d q e) da db = some (sameSide da db)
+mateTarget (points a b) da db = none
+mateTarget (planePoint p n q) da db = none
+mateTarget (linePoint p d q) da db = none
+mateTarget (planeLine p n q d) da db = none
+mateTarget other da db = none
 
 unfoldable pub jointTarget : JointKind → Bool → Vec Float → Option (Vec Float)
 jointTarget Rigid flip da = some (along flip da)
@@ -71,7 +68,7 @@ jointTarget Ball flip da = none
 
 -- the direction that b's is turned to, from a's direction da and b's db, ends placed
 unfoldable pub targetDir : Law → Geo Float → Geo Float → Vec Float → Vec Float → Option (Vec Float)
-targetDir (mate off) pa pb da db = mateTarget (matePrim pa) (matePrim pb) da db
+targetDir (mate off) pa pb da db = mateTarget (pair (matePrim pa) (matePrim pb)) da db
 targetDir (flush off) pa pb da db = some da
 targetDir (angle want reference) pa pb da db = none
 targetDir (insert off aligned) pa pb da db = some (along aligned da)

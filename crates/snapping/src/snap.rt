@@ -7,7 +7,7 @@ ghost use Rattle.vectors.specs.Math.{mat};
 ghost use Rattle.relations.specs.Geometry as geometry;
 ghost use Rattle.relations.specs.Geometry.{prim, direction};
 ghost use Rattle.relations.specs.Model.{endOf, lawOf, relOf, pose};
-ghost use Rattle.relations.specs.Rows.{jointOf, jointAt};
+ghost use Rattle.relations.specs.Rows.{jointOf, jointAt, pairOf};
 ghost use Rattle.snapping.specs.Snap as spec;
 use relations::geometry;
 use relations::geometry::Direction;
@@ -19,6 +19,7 @@ use relations::model::Pose;
 use relations::model::Rel;
 use relations::rows;
 use relations::rows::JointAt;
+use relations::rows::Pair;
 use relations::rows::perp;
 use vectors::math;
 use vectors::math::M3;
@@ -124,45 +125,17 @@ fn same_side(da: Vec3, db: Vec3) -> Vec3
 }
 
 // Where a mate turns b's direction.
-fn mate_target(a: Prim, b: Prim, da: Vec3, db: Vec3) -> Direction
-    ensures { λ w. ⌜ direction w ≡ spec.mateTarget (prim a) (prim b) (vec da) (vec db) ⌝ }
+fn mate_target(p: Pair, da: Vec3, db: Vec3) -> Direction
+    ensures { λ w. ⌜ direction w ≡ spec.mateTarget (pairOf p) (vec da) (vec db) ⌝ }
 {
-    match a {
-        Prim::Plane {
-            point: _,
-            normal: _,
-        } => match b {
-            Prim::Plane {
-                point: _,
-                normal: _,
-            } => Direction::Along(da.neg()),
-            Prim::Line { point: _, dir: _ } => Direction::Nothing,
-            Prim::Point(_) => Direction::Nothing,
-            Prim::Circle {
-                center: _,
-                normal: _,
-                radius: _,
-            } => Direction::Nothing,
-        },
-        Prim::Line { point: _, dir: _ } => match b {
-            Prim::Plane {
-                point: _,
-                normal: _,
-            } => Direction::Nothing,
-            Prim::Line { point: _, dir: _ } => Direction::Along(same_side(da, db)),
-            Prim::Point(_) => Direction::Nothing,
-            Prim::Circle {
-                center: _,
-                normal: _,
-                radius: _,
-            } => Direction::Nothing,
-        },
-        Prim::Point(_) => Direction::Nothing,
-        Prim::Circle {
-            center: _,
-            normal: _,
-            radius: _,
-        } => Direction::Nothing,
+    match p {
+        Pair::Planes(_, _, _, _) => Direction::Along(da.neg()),
+        Pair::Lines(_, _, _, _) => Direction::Along(same_side(da, db)),
+        Pair::Points(_, _) => Direction::Nothing,
+        Pair::PlanePoint(_, _, _) => Direction::Nothing,
+        Pair::LinePoint(_, _, _) => Direction::Nothing,
+        Pair::PlaneLine(_, _, _, _) => Direction::Nothing,
+        Pair::Other => Direction::Nothing,
     }
 }
 
@@ -191,7 +164,9 @@ fn target_dir(law: Law, pa: Prim, pb: Prim, da: Vec3, db: Vec3) -> Direction
     ensures { λ w. ⌜ direction w ≡ spec.targetDir (lawOf law) (prim pa) (prim pb) (vec da) (vec db) ⌝ }
 {
     match law {
-        Law::Mate { offset: _ } => mate_target(rows::mate_prim(pa), rows::mate_prim(pb), da, db),
+        Law::Mate { offset: _ } => {
+            mate_target(Pair::of(rows::mate_prim(pa), rows::mate_prim(pb)), da, db)
+        }
         Law::Flush { offset: _ } => Direction::Along(da),
         Law::Angle {
             angle: _,

@@ -1,4 +1,5 @@
--- `snapping::snap::target_dir` meets its contract. Assumes nothing.
+-- `snapping::snap::target_dir` gives the direction of the definition: an arm tells the law, and where the law has a function of its own that function promises
+-- it. Assumes nothing.
 use Rattle.snapping.specs.Snap.{targetDir}
 use borrow.Author.Needs.{needs}
 use Rattle.relations.proofs.Values.{vec-is}
@@ -13,6 +14,9 @@ mate-prim-requires c κs = tt
 
 mate-prim-requires-2 : tie.Need-mate-prim-requires-2
 mate-prim-requires-2 c κs = tt
+
+of-requires : tie.Need-of-requires
+of-requires c κs = tt
 
 mate-target-requires : tie.Need-mate-target-requires
 mate-target-requires c κs = tt
@@ -43,7 +47,12 @@ joint-target-requires c κs = tt
 
 returns : tie.Need-returns
 unfolding targetDir
-returns c = rw (c .before .before .before .enum-told .given .1, c .mate-target .ensures, c .before .mate-prim2 .ensures, c .before .before .mate-prim .ensures)
+returns c =
+    let pair = c .before in
+    let mateB = pair .before in
+    let mateA = mateB .before in
+    let told = mateA .before in
+    rw (told .enum-told .given .1, c .mate-target .ensures, pair .of .ensures, mateB .mate-prim2 .ensures, mateA .mate-prim .ensures)
 
 returns-2 : tie.Need-returns-2
 unfolding targetDir
@@ -55,7 +64,9 @@ returns-3 c = rw (c .enum-told3 .given .1)
 
 returns-4 : tie.Need-returns-4
 unfolding targetDir
-returns-4 c = rw (c .before .before .law .given .1, vec-is (c .facing .ensures))
+returns-4 c =
+    let law = c .before .before in
+    rw (law .law .given .1, vec-is (c .facing .ensures))
 
 returns-5 : tie.Need-returns-5
 unfolding targetDir
@@ -67,7 +78,9 @@ returns-6 c = rw (c .enum-told5 .given .1)
 
 returns-7 : tie.Need-returns-7
 unfolding targetDir
-returns-7 c = rw (c .before .before .law2 .given .1, c .joint-target .ensures)
+returns-7 c =
+    let law = c .before .before in
+    rw (law .law2 .given .1, c .joint-target .ensures)
 
 pub target-dir-spec : {M : Type 1} → statement M
 target-dir-spec =
@@ -76,6 +89,7 @@ target-dir-spec =
     enum-told
     mate-prim-requires
     mate-prim-requires-2
+    of-requires
     mate-target-requires
     enum-told-2
     enum-told-3
