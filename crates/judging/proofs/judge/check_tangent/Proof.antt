@@ -1,4 +1,5 @@
--- `judging::judge::check_tangent` meets its contract. Assumes nothing.
+-- `judging::judge::check_tangent` answers as `checkTangent` does: each way through the branches fixes what the tests of the ends say, and there the
+-- definition's `cond` computes. Assumes nothing.
 use mathlib.Core.Path.{_≡_, refl}
 use mathlib.Core.Bool.{Bool, true, false, _&&_}
 use Rattle.judging.specs.Judge.{checkTangent}
@@ -26,27 +27,88 @@ is-round-requires-3 c κs = tt
 
 returns : tie.Need-returns
 unfolding checkTangent
-returns c = rw (← (c .before .is-round2 .ensures), ← (c .before .before .before .is-round .ensures), c .if2 .taken, c .before .before .if1 .taken)
+returns c =
+    let roundB = c .before in
+    let branch = roundB .before in
+    let roundA = branch .before in
+    rw (← (roundB .is-round2 .ensures), ← (roundA .is-round .ensures), c .if2 .taken, branch .if1 .taken)
 
 returns-2 : tie.Need-returns-2
 unfolding checkTangent
-returns-2 c = rw (← (c .before .is-plane .ensures), ← (c .before .before .before .is-round2 .ensures), ← (c .before .before .before .before .before .is-round .ensures), c .if3 .taken, c .before .before .if2 .left, c .before .before .before .before .if1 .taken)
+returns-2 c =
+    let is-plane = c .before in
+    let branchB = is-plane .before in
+    let roundB = branchB .before in
+    let branchA = roundB .before in
+    let roundA = branchA .before in
+    rw (
+      ← (is-plane .is-plane .ensures),
+      ← (roundB .is-round2 .ensures),
+      ← (roundA .is-round .ensures),
+      c .if3 .taken,
+      branchB .if2 .left,
+      branchA .if1 .taken,
+    )
 
 returns-3 : tie.Need-returns-3
 unfolding checkTangent
-returns-3 c = rw (← (c .before .is-plane .ensures), ← (c .before .before .before .is-round2 .ensures), ← (c .before .before .before .before .before .is-round .ensures), c .if3 .left, c .before .before .if2 .left, c .before .before .before .before .if1 .taken, and-false)
+returns-3 c =
+    let is-plane = c .before in
+    let branchB = is-plane .before in
+    let roundB = branchB .before in
+    let branchA = roundB .before in
+    let roundA = branchA .before in
+    rw (
+      ← (is-plane .is-plane .ensures),
+      ← (roundB .is-round2 .ensures),
+      ← (roundA .is-round .ensures),
+      c .if3 .left,
+      branchB .if2 .left,
+      branchA .if1 .taken,
+      and-false,
+    )
 
 returns-4 : tie.Need-returns-4
 unfolding checkTangent
-returns-4 c = rw (← (c .before .is-round3 .ensures), ← (c .before .before .before .is-plane2 .ensures), ← (c .before .before .before .before .before .is-round .ensures), c .if5 .taken, c .before .before .if4 .taken, c .before .before .before .before .if1 .left)
+returns-4 c =
+    let roundB = c .before in
+    let branchB = roundB .before in
+    let is-plane = branchB .before in
+    let branchA = is-plane .before in
+    let roundA = branchA .before in
+    rw (
+      ← (roundB .is-round3 .ensures),
+      ← (is-plane .is-plane2 .ensures),
+      ← (roundA .is-round .ensures),
+      c .if5 .taken,
+      branchB .if4 .taken,
+      branchA .if1 .left,
+    )
 
 returns-5 : tie.Need-returns-5
 unfolding checkTangent
-returns-5 c = rw (← (c .before .is-round3 .ensures), ← (c .before .before .before .is-plane2 .ensures), ← (c .before .before .before .before .before .is-round .ensures), c .if5 .left, c .before .before .if4 .taken, c .before .before .before .before .if1 .left)
+returns-5 c =
+    let roundB = c .before in
+    let branchB = roundB .before in
+    let is-plane = branchB .before in
+    let branchA = is-plane .before in
+    let roundA = branchA .before in
+    rw (
+      ← (roundB .is-round3 .ensures),
+      ← (is-plane .is-plane2 .ensures),
+      ← (roundA .is-round .ensures),
+      c .if5 .left,
+      branchB .if4 .taken,
+      branchA .if1 .left,
+    )
 
 returns-6 : tie.Need-returns-6
 unfolding checkTangent
-returns-6 c = rw (← (c .before .is-plane2 .ensures), ← (c .before .before .before .is-round .ensures), c .if4 .left, c .before .before .if1 .left)
+returns-6 c =
+    let is-plane = c .before in
+    let branch = is-plane .before in
+    let is-round = branch .before in
+    rw (← (is-plane .is-plane2 .ensures), ← (is-round .is-round .ensures), c .if4 .left, branch .if1 .left)
 
 pub check-tangent-spec : {M : Type 1} → statement M
 check-tangent-spec =

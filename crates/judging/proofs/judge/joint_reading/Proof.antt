@@ -1,4 +1,5 @@
--- `judging::judge::joint_reading` meets its contract. Assumes nothing.
+-- `judging::judge::joint_reading` reads as `jointReading` does: both joint frames are the definition's, and the calls promise the offset and the angle between
+-- them. Assumes nothing.
 use Rattle.judging.specs.Judge.{jointReading}
 use Rattle.relations.proofs.Values.{joint-is, vec-is}
 use Rattle.judging.proofs.judge.joint_reading.Statement.{statement}
@@ -21,7 +22,12 @@ turn-requires c κs = tt
 
 returns : tie.Need-returns
 unfolding jointReading
-returns c = rw (c .turn .ensures, c .before .dot .ensures, vec-is (c .before .before .sub .ensures), joint-is (c .before .before .before .before .before .before .before .before .joint-at2 .ensures), joint-is (c .before .before .before .before .before .before .before .before .before .joint-at .ensures))
+returns c =
+    let dot = c .before in
+    let sub = dot .before in
+    let jointB = sub .before .before .before .before .before .before in
+    let jointA = jointB .before in
+    rw (c .turn .ensures, dot .dot .ensures, vec-is (sub .sub .ensures), joint-is (jointB .joint-at2 .ensures), joint-is (jointA .joint-at .ensures))
 
 pub joint-reading-spec : {M : Type 1} → statement M
 joint-reading-spec =

@@ -1,4 +1,5 @@
--- `judging::judge::judge` meets its contract. Assumes nothing.
+-- `judging::judge::judge` answers as the definition does: the two tests fix which `cond` of the definition is taken, and `check_tangent` promises the last
+-- answer. Assumes nothing.
 use Rattle.judging.specs.Judge.{judge}
 use Rattle.judging.proofs.judge.judge.Statement.{statement}
 use Rattle.judging.proofs.judge.judge.Tie as tie
@@ -14,11 +15,20 @@ check-tangent-requires c κs = tt
 
 returns : tie.Need-returns
 unfolding judge
-returns c = rw (← (c .before .before .is-tangent .ensures), ← (c .before .before .before .before .suits .ensures), c .before .if2 .taken, c .before .before .before .if1 .taken, c .check-tangent .ensures)
+returns c =
+    let branchB = c .before in
+    let is-tangent = branchB .before in
+    let branchA = is-tangent .before in
+    let suits = branchA .before in
+    rw (← (is-tangent .is-tangent .ensures), ← (suits .suits .ensures), branchB .if2 .taken, branchA .if1 .taken, c .check-tangent .ensures)
 
 returns-2 : tie.Need-returns-2
 unfolding judge
-returns-2 c = rw (← (c .before .is-tangent .ensures), ← (c .before .before .before .suits .ensures), c .if2 .left, c .before .before .if1 .taken)
+returns-2 c =
+    let is-tangent = c .before in
+    let branch = is-tangent .before in
+    let suits = branch .before in
+    rw (← (is-tangent .is-tangent .ensures), ← (suits .suits .ensures), c .if2 .left, branch .if1 .taken)
 
 returns-3 : tie.Need-returns-3
 unfolding judge

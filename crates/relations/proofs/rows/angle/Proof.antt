@@ -1,4 +1,5 @@
--- `relations::rows::angle` meets its contract. Assumes nothing.
+-- `relations::rows::angle` gives the rows of `angleRows`: an arm tells both directions, or the one that is missing, and where there are two the calls promise
+-- the row. Assumes nothing.
 use Rattle.relations.specs.Rows.{angleRows}
 use borrow.Author.Needs.{needs}
 use Rattle.relations.proofs.rows.angle.Statement.{statement}
@@ -33,11 +34,19 @@ none-requires-2 c κs = tt
 
 returns : tie.Need-returns
 unfolding angleRows
-returns c = rw (c .before .before .before .before .b .given .1, c .before .before .before .before .before .before .before .a .given .1, c .one .ensures, c .before .wrap .ensures, c .before .before .turn .ensures)
+returns c =
+    let wrap = c .before in
+    let turn = wrap .before in
+    let b = turn .before .before in
+    let a = b .before .before .before in
+    rw (b .b .given .1, a .a .given .1, c .one .ensures, wrap .wrap .ensures, turn .turn .ensures)
 
 returns-2 : tie.Need-returns-2
 unfolding angleRows
-returns-2 c = rw (c .before .enum-told .given .1, c .before .before .before .before .a .given .1, c .none .ensures)
+returns-2 c =
+    let told = c .before in
+    let a = told .before .before .before in
+    rw (told .enum-told .given .1, a .a .given .1, c .none .ensures)
 
 returns-3 : tie.Need-returns-3
 unfolding angleRows

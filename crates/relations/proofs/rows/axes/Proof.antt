@@ -1,4 +1,4 @@
--- `relations::rows::axes` meets its contract. Assumes nothing.
+-- `relations::rows::axes` is `axesApart`: the branch tells which way a's Z is scaled, and the calls promise the difference. Assumes nothing.
 use Rattle.relations.proofs.Values.{vec-is}
 use Rattle.relations.proofs.rows.axes.Statement.{statement}
 use Rattle.relations.proofs.rows.axes.Tie as tie
@@ -16,10 +16,16 @@ sub-requires-2 : tie.Need-sub-requires-2
 sub-requires-2 c κs = tt
 
 returns : tie.Need-returns
-returns c = rw (c .before .before .if1 .taken, vec-is (c .sub .ensures), vec-is (c .before .scale .ensures))
+returns c =
+    let scale = c .before in
+    let branch = scale .before in
+    rw (branch .if1 .taken, vec-is (c .sub .ensures), vec-is (scale .scale .ensures))
 
 returns-2 : tie.Need-returns-2
-returns-2 c = rw (c .before .before .if1 .left, vec-is (c .sub2 .ensures), vec-is (c .before .scale2 .ensures))
+returns-2 c =
+    let scale = c .before in
+    let branch = scale .before in
+    rw (branch .if1 .left, vec-is (c .sub2 .ensures), vec-is (scale .scale2 .ensures))
 
 pub axes-spec : {M : Type 1} → statement M
 axes-spec =

@@ -1,4 +1,5 @@
--- `relations::rows::flush` meets its contract. Assumes nothing.
+-- `relations::rows::flush` gives the rows of `flushRows`: an arm tells b inside one that tells a, so that the definition computes, and for two planes the calls
+-- promise the numbers in the rows. Assumes nothing.
 use Rattle.relations.specs.Rows.{flushRows}
 use borrow.Author.Needs.{needs}
 use Rattle.relations.proofs.Values.{vec-is}
@@ -58,19 +59,33 @@ none-requires-6 c κs = tt
 
 returns : tie.Need-returns
 unfolding flushRows
-returns c = rw (c .before .before .before .before .b .given .1, c .before .before .before .before .before .before .before .a .given .1, c .four .ensures, c .before .gap .ensures, vec-is (c .before .before .sub .ensures))
+returns c =
+    let gap = c .before in
+    let sub = gap .before in
+    let b = sub .before .before in
+    let a = b .before .before .before in
+    rw (b .b .given .1, a .a .given .1, c .four .ensures, gap .gap .ensures, vec-is (sub .sub .ensures))
 
 returns-2 : tie.Need-returns-2
 unfolding flushRows
-returns-2 c = rw (c .before .enum-told .given .1, c .before .before .before .before .a .given .1, c .none .ensures)
+returns-2 c =
+    let told = c .before in
+    let a = told .before .before .before in
+    rw (told .enum-told .given .1, a .a .given .1, c .none .ensures)
 
 returns-3 : tie.Need-returns-3
 unfolding flushRows
-returns-3 c = rw (c .before .enum-told2 .given .1, c .before .before .before .before .a .given .1, c .none2 .ensures)
+returns-3 c =
+    let told = c .before in
+    let a = told .before .before .before in
+    rw (told .enum-told2 .given .1, a .a .given .1, c .none2 .ensures)
 
 returns-4 : tie.Need-returns-4
 unfolding flushRows
-returns-4 c = rw (c .before .enum-told3 .given .1, c .before .before .before .before .a .given .1, c .none3 .ensures)
+returns-4 c =
+    let told = c .before in
+    let a = told .before .before .before in
+    rw (told .enum-told3 .given .1, a .a .given .1, c .none3 .ensures)
 
 returns-5 : tie.Need-returns-5
 unfolding flushRows

@@ -1,4 +1,5 @@
--- `relations::rows::insert` meets its contract. Assumes nothing.
+-- `relations::rows::insert` gives the rows of `insertRows`: an arm tells b inside one that tells a, so that the definition computes, and for two circles,
+-- aligned or not, the calls promise the numbers in the rows. Assumes nothing.
 use Rattle.relations.specs.Rows.{insertRows}
 use borrow.Author.Needs.{needs}
 use Rattle.relations.proofs.Values.{vec-is}
@@ -70,23 +71,66 @@ none-requires-6 c κs = tt
 
 returns : tie.Need-returns
 unfolding insertRows
-returns c = rw (c .before .before .before .before .before .before .before .b .given .1, c .before .before .before .before .before .before .before .before .before .before .a .given .1, c .before .before .if1 .taken, c .six .ensures, vec-is (c .before .sub3 .ensures), vec-is (c .before .before .before .sub2 .ensures), vec-is (c .before .before .before .before .scale .ensures), vec-is (c .before .before .before .before .before .sub .ensures))
+returns c =
+    let sub3 = c .before in
+    let branch = sub3 .before in
+    let sub2 = branch .before in
+    let scale = sub2 .before in
+    let sub = scale .before in
+    let b = sub .before .before in
+    let a = b .before .before .before in
+    rw (
+      b .b .given .1,
+      a .a .given .1,
+      branch .if1 .taken,
+      c .six .ensures,
+      vec-is (sub3 .sub3 .ensures),
+      vec-is (sub2 .sub2 .ensures),
+      vec-is (scale .scale .ensures),
+      vec-is (sub .sub .ensures),
+    )
 
 returns-2 : tie.Need-returns-2
 unfolding insertRows
-returns-2 c = rw (c .before .before .before .before .before .before .before .b .given .1, c .before .before .before .before .before .before .before .before .before .before .a .given .1, c .before .before .if1 .left, c .six2 .ensures, vec-is (c .before .add .ensures), vec-is (c .before .before .before .sub2 .ensures), vec-is (c .before .before .before .before .scale .ensures), vec-is (c .before .before .before .before .before .sub .ensures))
+returns-2 c =
+    let add = c .before in
+    let branch = add .before in
+    let sub2 = branch .before in
+    let scale = sub2 .before in
+    let sub = scale .before in
+    let b = sub .before .before in
+    let a = b .before .before .before in
+    rw (
+      b .b .given .1,
+      a .a .given .1,
+      branch .if1 .left,
+      c .six2 .ensures,
+      vec-is (add .add .ensures),
+      vec-is (sub2 .sub2 .ensures),
+      vec-is (scale .scale .ensures),
+      vec-is (sub .sub .ensures),
+    )
 
 returns-3 : tie.Need-returns-3
 unfolding insertRows
-returns-3 c = rw (c .before .enum-told .given .1, c .before .before .before .before .a .given .1, c .none .ensures)
+returns-3 c =
+    let told = c .before in
+    let a = told .before .before .before in
+    rw (told .enum-told .given .1, a .a .given .1, c .none .ensures)
 
 returns-4 : tie.Need-returns-4
 unfolding insertRows
-returns-4 c = rw (c .before .enum-told2 .given .1, c .before .before .before .before .a .given .1, c .none2 .ensures)
+returns-4 c =
+    let told = c .before in
+    let a = told .before .before .before in
+    rw (told .enum-told2 .given .1, a .a .given .1, c .none2 .ensures)
 
 returns-5 : tie.Need-returns-5
 unfolding insertRows
-returns-5 c = rw (c .before .enum-told3 .given .1, c .before .before .before .before .a .given .1, c .none3 .ensures)
+returns-5 c =
+    let told = c .before in
+    let a = told .before .before .before in
+    rw (told .enum-told3 .given .1, a .a .given .1, c .none3 .ensures)
 
 returns-6 : tie.Need-returns-6
 unfolding insertRows

@@ -1,4 +1,5 @@
--- `relations::rows::joint` meets its contract. Assumes nothing.
+-- `relations::rows::joint` gives the rows of `jointRows`: an arm tells the kind, so that the definition computes to its rows, and the calls promise the numbers
+-- in them. Assumes nothing.
 use Rattle.relations.specs.Rows.{jointRows}
 use borrow.Author.Needs.{needs}
 use Rattle.relations.proofs.Values.{vec-is}
@@ -82,27 +83,52 @@ three-requires c κs = tt
 
 returns : tie.Need-returns
 unfolding jointRows
-returns c = rw (c .before .before .before .before .enum-told .given .1, c .seven .ensures, c .before .turned .ensures, vec-is (c .before .before .origins .ensures), vec-is (c .before .before .before .axes .ensures))
+returns c =
+    let turned = c .before in
+    let origins = turned .before in
+    let axes = origins .before in
+    let told = axes .before in
+    rw (told .enum-told .given .1, c .seven .ensures, turned .turned .ensures, vec-is (origins .origins .ensures), vec-is (axes .axes .ensures))
 
 returns-2 : tie.Need-returns-2
 unfolding jointRows
-returns-2 c = rw (c .before .before .before .enum-told2 .given .1, c .six .ensures, vec-is (c .before .origins2 .ensures), vec-is (c .before .before .axes2 .ensures))
+returns-2 c =
+    let origins = c .before in
+    let axes = origins .before in
+    let told = axes .before in
+    rw (told .enum-told2 .given .1, c .six .ensures, vec-is (origins .origins2 .ensures), vec-is (axes .axes2 .ensures))
 
 returns-3 : tie.Need-returns-3
 unfolding jointRows
-returns-3 c = rw (c .before .before .before .before .enum-told3 .given .1, c .seven2 .ensures, c .before .turned2 .ensures, vec-is (c .before .before .off-axis .ensures), vec-is (c .before .before .before .axes3 .ensures))
+returns-3 c =
+    let turned = c .before in
+    let off-axis = turned .before in
+    let axes = off-axis .before in
+    let told = axes .before in
+    rw (told .enum-told3 .given .1, c .seven2 .ensures, turned .turned2 .ensures, vec-is (off-axis .off-axis .ensures), vec-is (axes .axes3 .ensures))
 
 returns-4 : tie.Need-returns-4
 unfolding jointRows
-returns-4 c = rw (c .before .before .before .enum-told4 .given .1, c .six2 .ensures, vec-is (c .before .off-axis2 .ensures), vec-is (c .before .before .axes4 .ensures))
+returns-4 c =
+    let off-axis = c .before in
+    let axes = off-axis .before in
+    let told = axes .before in
+    rw (told .enum-told4 .given .1, c .six2 .ensures, vec-is (off-axis .off-axis2 .ensures), vec-is (axes .axes4 .ensures))
 
 returns-5 : tie.Need-returns-5
 unfolding jointRows
-returns-5 c = rw (c .before .before .before .before .before .before .enum-told5 .given .1, c .four .ensures, c .before .gap .ensures, vec-is (c .before .before .axes5 .ensures))
+returns-5 c =
+    let gap = c .before in
+    let axes = gap .before in
+    let told = axes .before .before .before .before in
+    rw (told .enum-told5 .given .1, c .four .ensures, gap .gap .ensures, vec-is (axes .axes5 .ensures))
 
 returns-6 : tie.Need-returns-6
 unfolding jointRows
-returns-6 c = rw (c .before .before .before .before .enum-told6 .given .1, c .three .ensures, vec-is (c .before .sub .ensures))
+returns-6 c =
+    let sub = c .before in
+    let told = sub .before .before .before in
+    rw (told .enum-told6 .given .1, c .three .ensures, vec-is (sub .sub .ensures))
 
 pub joint-spec : {M : Type 1} → statement M
 joint-spec =

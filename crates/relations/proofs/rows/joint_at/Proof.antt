@@ -1,4 +1,4 @@
--- `relations::rows::joint_at` meets its contract. Assumes nothing.
+-- `relations::rows::joint_at` is `jointAt`: the frame is the definition's, and the calls place its origin and turn its X and Z. Assumes nothing.
 use Rattle.relations.specs.Rows.{jointAt}
 use Rattle.relations.proofs.Values.{frame-is, vec-is}
 use Rattle.relations.proofs.rows.joint_at.Statement.{statement}
@@ -18,7 +18,11 @@ apply-requires-2 c κs = tt
 
 returns : tie.Need-returns
 unfolding jointAt
-returns c = rw (vec-is (c .apply2 .ensures), vec-is (c .before .apply .ensures), vec-is (c .before .before .place .ensures), frame-is (c .before .before .before .before .before .before .before .joint-frame .ensures))
+returns c =
+    let apply = c .before in
+    let place = apply .before in
+    let joint-frame = place .before .before .before .before .before in
+    rw (vec-is (c .apply2 .ensures), vec-is (apply .apply .ensures), vec-is (place .place .ensures), frame-is (joint-frame .joint-frame .ensures))
 
 pub joint-at-spec : {M : Type 1} → statement M
 joint-at-spec =

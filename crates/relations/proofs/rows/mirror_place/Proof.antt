@@ -1,4 +1,4 @@
--- `relations::rows::mirror_place` meets its contract. Assumes nothing.
+-- `relations::rows::mirror_place` is `mirrorPlace`, operation by operation: each call promises its own. Assumes nothing.
 use Rattle.relations.proofs.Values.{vec-is}
 use Rattle.relations.proofs.rows.mirror_place.Statement.{statement}
 use Rattle.relations.proofs.rows.mirror_place.Tie as tie
@@ -16,7 +16,11 @@ sub-requires-2 : tie.Need-sub-requires-2
 sub-requires-2 c κs = tt
 
 returns : tie.Need-returns
-returns c = rw (vec-is (c .sub2 .ensures), vec-is (c .before .scale .ensures), c .before .before .dot .ensures, vec-is (c .before .before .before .sub .ensures))
+returns c =
+    let scale = c .before in
+    let dot = scale .before in
+    let sub = dot .before in
+    rw (vec-is (c .sub2 .ensures), vec-is (scale .scale .ensures), dot .dot .ensures, vec-is (sub .sub .ensures))
 
 pub mirror-place-spec : {M : Type 1} → statement M
 mirror-place-spec =

@@ -1,4 +1,5 @@
--- `snapping::snap::flush_slide` meets its contract. Assumes nothing.
+-- `snapping::snap::flush_slide` slides as the definition does: an arm tells b inside one that tells a, so that the definition computes, and for two planes the
+-- call promises the way. Assumes nothing.
 use Rattle.snapping.specs.Snap.{flushSlide}
 use borrow.Author.Needs.{needs}
 use Rattle.relations.proofs.Values.{vec-is}
@@ -34,19 +35,28 @@ enum-told-6 c = search needs
 
 returns : tie.Need-returns
 unfolding flushSlide
-returns c = rw (c .before .before .b .given .1, c .before .before .before .before .before .a .given .1, vec-is (c .slide-to .ensures))
+returns c =
+    let b = c .before .before in
+    let a = b .before .before .before in
+    rw (b .b .given .1, a .a .given .1, vec-is (c .slide-to .ensures))
 
 returns-2 : tie.Need-returns-2
 unfolding flushSlide
-returns-2 c = rw (c .enum-told .given .1, c .before .before .before .a .given .1)
+returns-2 c =
+    let a = c .before .before .before in
+    rw (c .enum-told .given .1, a .a .given .1)
 
 returns-3 : tie.Need-returns-3
 unfolding flushSlide
-returns-3 c = rw (c .enum-told2 .given .1, c .before .before .before .a .given .1)
+returns-3 c =
+    let a = c .before .before .before in
+    rw (c .enum-told2 .given .1, a .a .given .1)
 
 returns-4 : tie.Need-returns-4
 unfolding flushSlide
-returns-4 c = rw (c .enum-told3 .given .1, c .before .before .before .a .given .1)
+returns-4 c =
+    let a = c .before .before .before in
+    rw (c .enum-told3 .given .1, a .a .given .1)
 
 returns-5 : tie.Need-returns-5
 unfolding flushSlide

@@ -1,4 +1,4 @@
--- `snapping::snap::joint_slide` meets its contract. Assumes nothing.
+-- `snapping::snap::joint_slide` is the table `jointSlide`: an arm tells the kind, so that the table computes, and the calls promise the way. Assumes nothing.
 use Rattle.snapping.specs.Snap.{jointSlide}
 use borrow.Author.Needs.{needs}
 use Rattle.relations.proofs.Values.{vec-is}
@@ -57,11 +57,17 @@ returns-2 c = rw (c .before .enum-told2 .given .1, vec-is (c .to-origin2 .ensure
 
 returns-3 : tie.Need-returns-3
 unfolding jointSlide
-returns-3 c = rw (c .before .before .enum-told3 .given .1, vec-is (c .perp .ensures), vec-is (c .before .sub .ensures))
+returns-3 c =
+    let sub = c .before in
+    let told = sub .before in
+    rw (told .enum-told3 .given .1, vec-is (c .perp .ensures), vec-is (sub .sub .ensures))
 
 returns-4 : tie.Need-returns-4
 unfolding jointSlide
-returns-4 c = rw (c .before .before .enum-told4 .given .1, vec-is (c .perp2 .ensures), vec-is (c .before .sub2 .ensures))
+returns-4 c =
+    let sub = c .before in
+    let told = sub .before in
+    rw (told .enum-told4 .given .1, vec-is (c .perp2 .ensures), vec-is (sub .sub2 .ensures))
 
 returns-5 : tie.Need-returns-5
 unfolding jointSlide

@@ -1,4 +1,5 @@
--- `snapping::snap::mate_slide` meets its contract. Assumes nothing.
+-- `snapping::snap::mate_slide` slides as the definition does: an arm tells b inside one that tells a, so that the definition computes, and the calls promise
+-- the way. It tells a plane before a point from a point before a plane, since b is what slides. Assumes nothing.
 use Rattle.snapping.specs.Snap.{mateSlide}
 use borrow.Author.Needs.{needs}
 use Rattle.relations.proofs.Values.{vec-is}
@@ -94,51 +95,88 @@ enum-told-4 c = search needs
 
 returns : tie.Need-returns
 unfolding mateSlide
-returns c = rw (c .before .before .b .given .1, c .before .before .before .before .before .a .given .1, vec-is (c .slide-to .ensures))
+returns c =
+    let b = c .before .before in
+    let a = b .before .before .before in
+    rw (b .b .given .1, a .a .given .1, vec-is (c .slide-to .ensures))
 
 returns-2 : tie.Need-returns-2
 unfolding mateSlide
-returns-2 c = rw (c .before .before .b2 .given .1, c .before .before .before .before .before .a .given .1, vec-is (c .slide-to2 .ensures))
+returns-2 c =
+    let b = c .before .before in
+    let a = b .before .before .before in
+    rw (b .b2 .given .1, a .a .given .1, vec-is (c .slide-to2 .ensures))
 
 returns-3 : tie.Need-returns-3
 unfolding mateSlide
-returns-3 c = rw (c .before .before .b3 .given .1, c .before .before .before .before .before .a .given .1, vec-is (c .slide-to3 .ensures))
+returns-3 c =
+    let b = c .before .before in
+    let a = b .before .before .before in
+    rw (b .b3 .given .1, a .a .given .1, vec-is (c .slide-to3 .ensures))
 
 returns-4 : tie.Need-returns-4
 unfolding mateSlide
-returns-4 c = rw (c .enum-told .given .1, c .before .before .before .a .given .1)
+returns-4 c =
+    let a = c .before .before .before in
+    rw (c .enum-told .given .1, a .a .given .1)
 
 returns-5 : tie.Need-returns-5
 unfolding mateSlide
-returns-5 c = rw (c .before .before .b4 .given .1, c .before .before .before .before .before .a2 .given .1, vec-is (c .slide-from .ensures))
+returns-5 c =
+    let b = c .before .before in
+    let a = b .before .before .before in
+    rw (b .b4 .given .1, a .a2 .given .1, vec-is (c .slide-from .ensures))
 
 returns-6 : tie.Need-returns-6
 unfolding mateSlide
-returns-6 c = rw (c .before .before .before .b5 .given .1, c .before .before .before .before .before .before .a2 .given .1, vec-is (c .perp .ensures), vec-is (c .before .sub .ensures))
+returns-6 c =
+    let sub = c .before in
+    let b = sub .before .before in
+    let a = b .before .before .before in
+    rw (b .b5 .given .1, a .a2 .given .1, vec-is (c .perp .ensures), vec-is (sub .sub .ensures))
 
 returns-7 : tie.Need-returns-7
 unfolding mateSlide
-returns-7 c = rw (c .before .before .before .before .b6 .given .1, c .before .before .before .before .before .before .before .a2 .given .1, vec-is (c .neg .ensures), vec-is (c .before .perp2 .ensures), vec-is (c .before .before .sub2 .ensures))
+returns-7 c =
+    let perp = c .before in
+    let sub = perp .before in
+    let b = sub .before .before in
+    let a = b .before .before .before in
+    rw (b .b6 .given .1, a .a2 .given .1, vec-is (c .neg .ensures), vec-is (perp .perp2 .ensures), vec-is (sub .sub2 .ensures))
 
 returns-8 : tie.Need-returns-8
 unfolding mateSlide
-returns-8 c = rw (c .enum-told2 .given .1, c .before .before .before .a2 .given .1)
+returns-8 c =
+    let a = c .before .before .before in
+    rw (c .enum-told2 .given .1, a .a2 .given .1)
 
 returns-9 : tie.Need-returns-9
 unfolding mateSlide
-returns-9 c = rw (c .before .before .b7 .given .1, c .before .before .before .before .before .a3 .given .1, vec-is (c .slide-from2 .ensures))
+returns-9 c =
+    let b = c .before .before in
+    let a = b .before .before .before in
+    rw (b .b7 .given .1, a .a3 .given .1, vec-is (c .slide-from2 .ensures))
 
 returns-10 : tie.Need-returns-10
 unfolding mateSlide
-returns-10 c = rw (c .before .before .before .b8 .given .1, c .before .before .before .before .before .before .a3 .given .1, vec-is (c .perp3 .ensures), vec-is (c .before .sub3 .ensures))
+returns-10 c =
+    let sub = c .before in
+    let b = sub .before .before in
+    let a = b .before .before .before in
+    rw (b .b8 .given .1, a .a3 .given .1, vec-is (c .perp3 .ensures), vec-is (sub .sub3 .ensures))
 
 returns-11 : tie.Need-returns-11
 unfolding mateSlide
-returns-11 c = rw (c .before .before .b9 .given .1, c .before .before .before .before .before .a3 .given .1, vec-is (c .sub4 .ensures))
+returns-11 c =
+    let b = c .before .before in
+    let a = b .before .before .before in
+    rw (b .b9 .given .1, a .a3 .given .1, vec-is (c .sub4 .ensures))
 
 returns-12 : tie.Need-returns-12
 unfolding mateSlide
-returns-12 c = rw (c .enum-told3 .given .1, c .before .before .before .a3 .given .1)
+returns-12 c =
+    let a = c .before .before .before in
+    rw (c .enum-told3 .given .1, a .a3 .given .1)
 
 returns-13 : tie.Need-returns-13
 unfolding mateSlide

@@ -1,4 +1,4 @@
--- `snapping::snap::slide` meets its contract. Assumes nothing.
+-- `snapping::snap::slide` slides as the definition does: an arm tells the law, and the law's own function promises the way. Assumes nothing.
 use Rattle.snapping.specs.Snap.{slide}
 use borrow.Author.Needs.{needs}
 use Rattle.relations.proofs.Values.{vec-is}
@@ -52,11 +52,17 @@ joint-slide-requires c κs = tt
 
 returns : tie.Need-returns
 unfolding slide
-returns c = rw (c .before .before .before .before .law .given .1, vec-is (c .mate-slide .ensures), c .before .mate-prim2 .ensures, c .before .before .mate-prim .ensures)
+returns c =
+    let mateB = c .before in
+    let mateA = mateB .before in
+    let law = mateA .before .before in
+    rw (law .law .given .1, vec-is (c .mate-slide .ensures), mateB .mate-prim2 .ensures, mateA .mate-prim .ensures)
 
 returns-2 : tie.Need-returns-2
 unfolding slide
-returns-2 c = rw (c .before .before .law2 .given .1, vec-is (c .flush-slide .ensures))
+returns-2 c =
+    let law = c .before .before in
+    rw (law .law2 .given .1, vec-is (c .flush-slide .ensures))
 
 returns-3 : tie.Need-returns-3
 unfolding slide
@@ -64,11 +70,16 @@ returns-3 c = rw (c .enum-told .given .1)
 
 returns-4 : tie.Need-returns-4
 unfolding slide
-returns-4 c = rw (c .before .before .law3 .given .1, vec-is (c .insert-slide .ensures))
+returns-4 c =
+    let law = c .before .before in
+    rw (law .law3 .given .1, vec-is (c .insert-slide .ensures))
 
 returns-5 : tie.Need-returns-5
 unfolding slide
-returns-5 c = rw (c .before .before .before .law4 .given .1, vec-is (c .tangent-slide .ensures), c .before .plane-gap .ensures)
+returns-5 c =
+    let plane-gap = c .before in
+    let law = plane-gap .before .before in
+    rw (law .law4 .given .1, vec-is (c .tangent-slide .ensures), plane-gap .plane-gap .ensures)
 
 returns-6 : tie.Need-returns-6
 unfolding slide
@@ -76,7 +87,9 @@ returns-6 c = rw (c .enum-told2 .given .1)
 
 returns-7 : tie.Need-returns-7
 unfolding slide
-returns-7 c = rw (c .before .before .before .before .law5 .given .1, vec-is (c .joint-slide .ensures))
+returns-7 c =
+    let law = c .before .before .before .before in
+    rw (law .law5 .given .1, vec-is (c .joint-slide .ensures))
 
 pub slide-spec : {M : Type 1} → statement M
 slide-spec =

@@ -1,4 +1,5 @@
--- `snapping::snap::sliding` meets its contract. Assumes nothing.
+-- `snapping::snap::sliding` is the definition's: a's end and joint frame, b's end after the turning and b's origin then are the definition's, so that `slide`
+-- is. Assumes nothing.
 use mathlib.Core.Path.{_≡_, _∙_}
 use lib.Ieee.{Float}
 use Rattle.vectors.specs.Vec.{Vec}
@@ -9,7 +10,9 @@ use Rattle.snapping.specs.Snap.{slide, sliding}
 use Rattle.snapping.proofs.snap.sliding.Statement.{statement}
 use Rattle.snapping.proofs.snap.sliding.Tie as tie
 
-same-slide : (l : Law) (ra rb : Float) {pa pa' pb pb' : Geo Float} {ja ja' : JointAt} {o o' : Vec Float} → pa ≡ pa' → pb ≡ pb' → ja ≡ ja' → o ≡ o' → slide l ra rb pa pb ja o ≡ slide l ra rb pa' pb' ja' o'
+same-slide : (l : Law) (ra rb : Float) {pa pa' pb pb' : Geo Float} {ja ja' : JointAt} {o o' : Vec Float}
+    → pa ≡ pa' → pb ≡ pb' → ja ≡ ja' → o ≡ o'
+    → slide l ra rb pa pb ja o ≡ slide l ra rb pa' pb' ja' o'
 same-slide l ra rb ea eb ej eo = rw (ea, eb, ej, eo)
 
 placed-requires : tie.Need-placed-requires
@@ -30,8 +33,12 @@ slide-requires c κs = tt
 returns : tie.Need-returns
 unfolding sliding
 returns c =
+    let originB = c .before in
+    let jointA = originB .before in
+    let placedB = jointA .before in
+    let placedA = placedB .before in
     c .slide .ensures
-    ∙ same-slide _ _ _ (c .before .before .before .before .placed .ensures) (c .before .before .before .placed2 .ensures) (c .before .before .joint-at .ensures) (c .before .joint-origin .ensures)
+    ∙ same-slide _ _ _ (placedA .placed .ensures) (placedB .placed2 .ensures) (jointA .joint-at .ensures) (originB .joint-origin .ensures)
 
 pub sliding-spec : {M : Type 1} → statement M
 sliding-spec =

@@ -1,4 +1,5 @@
--- `snapping::snap::tangent_slide` meets its contract. Assumes nothing.
+-- `snapping::snap::tangent_slide` slides as the definition does: an arm tells b inside one that tells a, so that the definition computes, and the call promises
+-- the way along the plane's normal. Assumes nothing.
 use Rattle.snapping.specs.Snap.{tangentSlide}
 use borrow.Author.Needs.{needs}
 use Rattle.relations.proofs.Values.{vec-is}
@@ -67,51 +68,79 @@ enum-told-9 c = search needs
 
 returns : tie.Need-returns
 unfolding tangentSlide
-returns c = rw (c .before .before .b .given .1, c .before .before .before .before .before .a .given .1, vec-is (c .slide-to .ensures))
+returns c =
+    let b = c .before .before in
+    let a = b .before .before .before in
+    rw (b .b .given .1, a .a .given .1, vec-is (c .slide-to .ensures))
 
 returns-2 : tie.Need-returns-2
 unfolding tangentSlide
-returns-2 c = rw (c .before .before .b2 .given .1, c .before .before .before .before .before .a .given .1, vec-is (c .slide-to2 .ensures))
+returns-2 c =
+    let b = c .before .before in
+    let a = b .before .before .before in
+    rw (b .b2 .given .1, a .a .given .1, vec-is (c .slide-to2 .ensures))
 
 returns-3 : tie.Need-returns-3
 unfolding tangentSlide
-returns-3 c = rw (c .enum-told .given .1, c .before .before .before .a .given .1)
+returns-3 c =
+    let a = c .before .before .before in
+    rw (c .enum-told .given .1, a .a .given .1)
 
 returns-4 : tie.Need-returns-4
 unfolding tangentSlide
-returns-4 c = rw (c .enum-told2 .given .1, c .before .before .before .a .given .1)
+returns-4 c =
+    let a = c .before .before .before in
+    rw (c .enum-told2 .given .1, a .a .given .1)
 
 returns-5 : tie.Need-returns-5
 unfolding tangentSlide
-returns-5 c = rw (c .before .before .b3 .given .1, c .before .before .before .before .before .a2 .given .1, vec-is (c .slide-from .ensures))
+returns-5 c =
+    let b = c .before .before in
+    let a = b .before .before .before in
+    rw (b .b3 .given .1, a .a2 .given .1, vec-is (c .slide-from .ensures))
 
 returns-6 : tie.Need-returns-6
 unfolding tangentSlide
-returns-6 c = rw (c .enum-told3 .given .1, c .before .before .before .a2 .given .1)
+returns-6 c =
+    let a = c .before .before .before in
+    rw (c .enum-told3 .given .1, a .a2 .given .1)
 
 returns-7 : tie.Need-returns-7
 unfolding tangentSlide
-returns-7 c = rw (c .enum-told4 .given .1, c .before .before .before .a2 .given .1)
+returns-7 c =
+    let a = c .before .before .before in
+    rw (c .enum-told4 .given .1, a .a2 .given .1)
 
 returns-8 : tie.Need-returns-8
 unfolding tangentSlide
-returns-8 c = rw (c .enum-told5 .given .1, c .before .before .before .a2 .given .1)
+returns-8 c =
+    let a = c .before .before .before in
+    rw (c .enum-told5 .given .1, a .a2 .given .1)
 
 returns-9 : tie.Need-returns-9
 unfolding tangentSlide
-returns-9 c = rw (c .before .before .b4 .given .1, c .before .before .before .before .before .a3 .given .1, vec-is (c .slide-from2 .ensures))
+returns-9 c =
+    let b = c .before .before in
+    let a = b .before .before .before in
+    rw (b .b4 .given .1, a .a3 .given .1, vec-is (c .slide-from2 .ensures))
 
 returns-10 : tie.Need-returns-10
 unfolding tangentSlide
-returns-10 c = rw (c .enum-told6 .given .1, c .before .before .before .a3 .given .1)
+returns-10 c =
+    let a = c .before .before .before in
+    rw (c .enum-told6 .given .1, a .a3 .given .1)
 
 returns-11 : tie.Need-returns-11
 unfolding tangentSlide
-returns-11 c = rw (c .enum-told7 .given .1, c .before .before .before .a3 .given .1)
+returns-11 c =
+    let a = c .before .before .before in
+    rw (c .enum-told7 .given .1, a .a3 .given .1)
 
 returns-12 : tie.Need-returns-12
 unfolding tangentSlide
-returns-12 c = rw (c .enum-told8 .given .1, c .before .before .before .a3 .given .1)
+returns-12 c =
+    let a = c .before .before .before in
+    rw (c .enum-told8 .given .1, a .a3 .given .1)
 
 returns-13 : tie.Need-returns-13
 unfolding tangentSlide

@@ -1,4 +1,5 @@
--- `snapping::snap::turn_onto` meets its contract. Assumes nothing.
+-- `snapping::snap::turn_onto` is `turnOnto`: an arm tells both directions, or the one that is missing, and where there are two the calls promise the turning.
+-- Assumes nothing.
 use Rattle.snapping.specs.Snap.{turnOnto}
 use borrow.Author.Needs.{needs}
 use Rattle.relations.proofs.Values.{mat-is}
@@ -25,11 +26,17 @@ enum-told-2 c = search needs
 
 returns : tie.Need-returns
 unfolding turnOnto
-returns c = rw (c .before .before .before .db .given .1, c .before .before .before .before .before .before .da .given .1, mat-is (c .turn-to .ensures), c .before .target-dir .ensures)
+returns c =
+    let target-dir = c .before in
+    let db = target-dir .before .before in
+    let da = db .before .before .before in
+    rw (db .db .given .1, da .da .given .1, mat-is (c .turn-to .ensures), target-dir .target-dir .ensures)
 
 returns-2 : tie.Need-returns-2
 unfolding turnOnto
-returns-2 c = rw (c .enum-told .given .1, c .before .before .before .da .given .1)
+returns-2 c =
+    let da = c .before .before .before in
+    rw (c .enum-told .given .1, da .da .given .1)
 
 returns-3 : tie.Need-returns-3
 unfolding turnOnto

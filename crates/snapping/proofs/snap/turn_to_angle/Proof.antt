@@ -1,4 +1,4 @@
--- `snapping::snap::turn_to_angle` meets its contract. Assumes nothing.
+-- `snapping::snap::turn_to_angle` is `turnToAngle`, operation by operation: each call promises its own. Assumes nothing.
 use Rattle.snapping.specs.Snap.{turnToAngle}
 use Rattle.relations.proofs.Values.{mat-is, vec-is}
 use Rattle.snapping.proofs.snap.turn_to_angle.Statement.{statement}
@@ -21,7 +21,12 @@ mul-requires c κs = tt
 
 returns : tie.Need-returns
 unfolding turnToAngle
-returns c = rw (mat-is (c .mul .ensures), mat-is (c .before .exp .ensures), vec-is (c .before .before .scale .ensures), c .before .before .before .turn .ensures, vec-is (c .before .before .before .before .apply .ensures))
+returns c =
+    let exp = c .before in
+    let scale = exp .before in
+    let turn = scale .before in
+    let apply = turn .before in
+    rw (mat-is (c .mul .ensures), mat-is (exp .exp .ensures), vec-is (scale .scale .ensures), turn .turn .ensures, vec-is (apply .apply .ensures))
 
 pub turn-to-angle-spec : {M : Type 1} → statement M
 turn-to-angle-spec =

@@ -1,4 +1,5 @@
--- `snapping::snap::turned` meets its contract. Assumes nothing.
+-- `snapping::snap::turned` is the definition's: both ends and both joint frames are placed as the definition places them, so that the turning is the same, and
+-- with it the motion about the centre. Assumes nothing.
 use mathlib.Core.Path.{_≡_, _∙_}
 use lib.Ieee.{Float}
 use Rattle.vectors.specs.Vec.{Vec, zeroV}
@@ -10,7 +11,9 @@ use Rattle.snapping.specs.Snap.{about, turning, turned}
 use Rattle.snapping.proofs.snap.turned.Statement.{statement}
 use Rattle.snapping.proofs.snap.turned.Tie as tie
 
-same-turning : (l : Law) {pa pa' pb pb' : Geo Float} {ja ja' jb jb' : JointAt} → pa ≡ pa' → pb ≡ pb' → ja ≡ ja' → jb ≡ jb' → turning l pa pb ja jb ≡ turning l pa' pb' ja' jb'
+same-turning : (l : Law) {pa pa' pb pb' : Geo Float} {ja ja' jb jb' : JointAt}
+    → pa ≡ pa' → pb ≡ pb' → ja ≡ ja' → jb ≡ jb'
+    → turning l pa pb ja jb ≡ turning l pa' pb' ja' jb'
 same-turning l ea eb fa fb = rw (ea, eb, fa, fb)
 
 same-about : (center : Vec Float) {m m' : Mat Float} → m ≡ m' → about m center zeroV ≡ about m' center zeroV
@@ -37,10 +40,15 @@ about-requires c κs = tt
 returns : tie.Need-returns
 unfolding turned
 returns c =
+    let turning = c .before in
+    let jointB = turning .before in
+    let jointA = jointB .before in
+    let placedB = jointA .before in
+    let placedA = placedB .before in
     c .about .ensures
     ∙ same-about _
-    (c .before .turning .ensures
-    ∙ same-turning _ (c .before .before .before .before .before .placed .ensures) (c .before .before .before .before .placed2 .ensures) (c .before .before .before .joint-at .ensures) (c .before .before .joint-at2 .ensures))
+    (turning .turning .ensures
+    ∙ same-turning _ (placedA .placed .ensures) (placedB .placed2 .ensures) (jointA .joint-at .ensures) (jointB .joint-at2 .ensures))
 
 pub turned-spec : {M : Type 1} → statement M
 turned-spec =

@@ -1,4 +1,4 @@
--- `snapping::snap::turning` meets its contract. Assumes nothing.
+-- `snapping::snap::turning` is the definition's: the turning of `turn_onto`, with the directions that `snap_dir` promises, then `snap_turn`'s. Assumes nothing.
 use mathlib.Core.Path.{_≡_, _∙_, ap}
 use mathlib.Core.Option.{Option}
 use lib.Ieee.{Float}
@@ -26,7 +26,11 @@ snap-turn-requires c κs = tt
 
 returns : tie.Need-returns
 unfolding turning
-returns c = c .snap-turn .ensures ∙ ap (snapTurn _ _ _) (c .before .turn-onto .ensures ∙ same-turn _ _ _ (c .before .before .before .snap-dir .ensures) (c .before .before .snap-dir2 .ensures))
+returns c =
+    let turn-onto = c .before in
+    let directionB = turn-onto .before in
+    let directionA = directionB .before in
+    c .snap-turn .ensures ∙ ap (snapTurn _ _ _) (turn-onto .turn-onto .ensures ∙ same-turn _ _ _ (directionA .snap-dir .ensures) (directionB .snap-dir2 .ensures))
 
 pub turning-spec : {M : Type 1} → statement M
 turning-spec =

@@ -1,4 +1,4 @@
--- `relations::geometry::Prim::joint_frame` meets its contract. Assumes nothing.
+-- `relations::geometry::Prim::joint_frame` is `jointFrame`, call by call. Assumes nothing.
 use Rattle.relations.specs.Geometry.{jointFrame}
 use Rattle.relations.proofs.Values.{frame-is, vec-is}
 use Rattle.relations.proofs.geometry.Prim.joint_frame.Statement.{statement}
@@ -21,7 +21,18 @@ frame-or-requires c κs = tt
 
 returns : tie.Need-returns
 unfolding jointFrame
-returns c = rw (frame-is (c .frame-or .ensures), c .before .from-normal .ensures, vec-is (c .before .before .point .ensures), vec-is (c .before .before .before .joint-axis .ensures), c .before .before .before .before .direction .ensures)
+returns c =
+    let from-normal = c .before in
+    let point = from-normal .before in
+    let joint-axis = point .before in
+    let direction = joint-axis .before in
+    rw (
+      frame-is (c .frame-or .ensures),
+      from-normal .from-normal .ensures,
+      vec-is (point .point .ensures),
+      vec-is (joint-axis .joint-axis .ensures),
+      direction .direction .ensures,
+    )
 
 pub joint-frame-spec : {M : Type 1} → statement M
 joint-frame-spec =

@@ -1,4 +1,5 @@
--- `relations::geometry::Prim::placed` meets its contract. Assumes nothing.
+-- `relations::geometry::Prim::placed` moves as the definition does: an arm tells the primitive, and the calls promise its point and its direction moved.
+-- Assumes nothing.
 use Rattle.relations.specs.Geometry.{placed}
 use borrow.Author.Needs.{needs}
 use Rattle.relations.proofs.Values.{vec-is}
@@ -40,19 +41,30 @@ apply-requires-3 c κs = tt
 
 returns : tie.Need-returns
 unfolding placed
-returns c = rw (c .before .before .before .self .given .1, vec-is (c .apply .ensures), vec-is (c .before .place .ensures))
+returns c =
+    let place = c .before in
+    let self = place .before .before in
+    rw (self .self .given .1, vec-is (c .apply .ensures), vec-is (place .place .ensures))
 
 returns-2 : tie.Need-returns-2
 unfolding placed
-returns-2 c = rw (c .before .before .before .self2 .given .1, vec-is (c .apply2 .ensures), vec-is (c .before .place2 .ensures))
+returns-2 c =
+    let place = c .before in
+    let self = place .before .before in
+    rw (self .self2 .given .1, vec-is (c .apply2 .ensures), vec-is (place .place2 .ensures))
 
 returns-3 : tie.Need-returns-3
 unfolding placed
-returns-3 c = rw (c .before .before .self3 .given .1, vec-is (c .place3 .ensures))
+returns-3 c =
+    let self = c .before .before in
+    rw (self .self3 .given .1, vec-is (c .place3 .ensures))
 
 returns-4 : tie.Need-returns-4
 unfolding placed
-returns-4 c = rw (c .before .before .before .self4 .given .1, vec-is (c .apply3 .ensures), vec-is (c .before .place4 .ensures))
+returns-4 c =
+    let place = c .before in
+    let self = place .before .before in
+    rw (self .self4 .given .1, vec-is (c .apply3 .ensures), vec-is (place .place4 .ensures))
 
 pub placed-spec : {M : Type 1} → statement M
 placed-spec =

@@ -62,8 +62,21 @@ max-abs-below-requires-7 c κs = tt
 returns : tie.Need-returns
 unfolding rowsOf steps
 returns c =
-    let b = c .before .before .before in
-    rw (c .max-abs-below7 .ensures, c .before .max-abs-below6 .ensures, c .before .before .max-abs-below5 .ensures, b .max-abs-below4 .ensures, b .before .max-abs-below3 .ensures, b .before .before .max-abs-below2 .ensures, b .before .before .before .max-abs-below .ensures)
+    let m5 = c .before in
+    let m4 = m5 .before in
+    let m3 = m4 .before in
+    let m2 = m3 .before in
+    let m1 = m2 .before in
+    let m0 = m1 .before in
+    rw (
+      c .max-abs-below7 .ensures,
+      m5 .max-abs-below6 .ensures,
+      m4 .max-abs-below5 .ensures,
+      m3 .max-abs-below4 .ensures,
+      m2 .max-abs-below3 .ensures,
+      m1 .max-abs-below2 .ensures,
+      m0 .max-abs-below .ensures,
+    )
     (seven _ _ _ _ _ _ _ _)
 
 pub max-abs-spec : {M : Type 1} → statement M

@@ -1,4 +1,4 @@
--- `snapping::snap::Motion::apply_frame` meets its contract. Assumes nothing.
+-- `snapping::snap::Motion::apply_frame` is `applyFrame`, call by call. Assumes nothing.
 use Rattle.snapping.specs.Snap.{applyFrame}
 use Rattle.relations.proofs.Values.{frame-is, mat-is, vec-is}
 use Rattle.snapping.proofs.snap.Motion.apply_frame.Statement.{statement}
@@ -21,7 +21,18 @@ frame-or-requires c κs = tt
 
 returns : tie.Need-returns
 unfolding applyFrame
-returns c = rw (frame-is (c .frame-or .ensures), c .before .frame-of .ensures, vec-is (c .before .before .place .ensures), mat-is (c .before .before .before .mul .ensures), mat-is (c .before .before .before .before .of-frame .ensures))
+returns c =
+    let frame-of = c .before in
+    let place = frame-of .before in
+    let mul = place .before in
+    let of-frame = mul .before in
+    rw (
+      frame-is (c .frame-or .ensures),
+      frame-of .frame-of .ensures,
+      vec-is (place .place .ensures),
+      mat-is (mul .mul .ensures),
+      mat-is (of-frame .of-frame .ensures),
+    )
 
 pub apply-frame-spec : {M : Type 1} → statement M
 apply-frame-spec =
