@@ -4,7 +4,7 @@
     python3 tools/crates_drawing.py --check    end with 1 if docs/crates.svg is another drawing
 
 A line leads from a crate down to those that it stands on; what these stand on themselves is not drawn again.
-The programs that replay lists are left out.
+The programs that replay lists, and what they alone stand on, are left out.
 """
 import pathlib
 import sys
@@ -23,9 +23,8 @@ def crates():
         if line:
             name, below = line.split(":")
             found[name] = set(below.split()) - OUTSIDE
-    on_top = {name for name in found if not any(name in below for below in found.values())}
-    replaying = on_top - {"report"}
-    return {name: below for name, below in found.items() if name not in replaying}
+    drawn = {"report"} | all_below("report", found)
+    return {name: below for name, below in found.items() if name in drawn}
 
 
 def all_below(name, found):
