@@ -1,4 +1,4 @@
--- `numbers::abs` meets its contract. Assumes nothing.
+-- `numbers::abs` meets its contract: `negative` promises the sign; with the sign set the definition is the negation, without it the double itself. Assumes nothing.
 use mathlib.Core.Path.{sym, _∙_}
 use Rattle.numbers.proofs.DoubleLaws.{abs-negative, abs-positive}
 use Rattle.numbers.proofs.abs.Statement.{statement}

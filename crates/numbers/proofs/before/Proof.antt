@@ -1,4 +1,5 @@
--- `numbers::before` meets its contract. Assumes nothing.
+-- `numbers::before` meets its contract: one law for each outcome of the two comparisons: less, equal and neither (`before-less`, `before-level`, `before-apart`). What
+-- is left to decide are the signs that `negative` promises, or which of the two is a NaN. Assumes nothing.
 use mathlib.Core.Path.{sym}
 use Rattle.numbers.proofs.DoubleLaws.{eq-self, ne-self, before-less, before-level, before-apart}
 use Rattle.numbers.proofs.before.Statement.{statement}

@@ -1,4 +1,4 @@
--- `numbers::clamp` meets its contract. Assumes nothing.
+-- `numbers::clamp` meets its contract: the definition makes the same two comparisons in the same order, and their outcomes choose its value. Assumes nothing.
 use Rattle.numbers.specs.Double.{clamp}
 use Rattle.numbers.proofs.clamp.Statement.{statement}
 use Rattle.numbers.proofs.clamp.Tie as tie

@@ -1,4 +1,4 @@
--- `numbers::is_finite` meets its contract. Assumes nothing.
+-- `numbers::is_finite` meets its contract: a double less itself equals itself just where the double is finite (`finite-by-itself`). Assumes nothing.
 use Rattle.numbers.proofs.DoubleLaws.{finite-by-itself}
 use Rattle.numbers.proofs.is_finite.Statement.{statement}
 use Rattle.numbers.proofs.is_finite.Tie as tie

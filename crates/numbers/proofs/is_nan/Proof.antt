@@ -1,4 +1,4 @@
--- `numbers::is_nan` meets its contract. Assumes nothing.
+-- `numbers::is_nan` meets its contract: a double is unequal to itself just where it is a NaN (`ne-self`). Assumes nothing.
 use Rattle.numbers.proofs.DoubleLaws.{ne-self}
 use Rattle.numbers.proofs.is_nan.Statement.{statement}
 use Rattle.numbers.proofs.is_nan.Tie as tie

@@ -1,4 +1,5 @@
--- `numbers::max` meets its contract. Assumes nothing.
+-- `numbers::max` meets its contract: of two doubles in order the definition takes the larger (`fmax-less`, `fmax-more`). On the other paths the outcomes of the tests,
+-- where unequal to itself means NaN, choose the definition's value. Assumes nothing.
 use mathlib.Core.Logic.{⊎-elim}
 use mathlib.Core.Path.{_≡_, sym, _∙_}
 use mathlib.Core.Bool.{true, false}

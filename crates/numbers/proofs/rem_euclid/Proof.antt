@@ -1,4 +1,4 @@
--- `numbers::rem_euclid` meets its contract. Assumes nothing.
+-- `numbers::rem_euclid` meets its contract: the definition has the same remainder and the same test, whose outcome chooses its value. Assumes nothing.
 use Rattle.numbers.specs.Double.{remEuclid}
 use Rattle.numbers.proofs.rem_euclid.Statement.{statement}
 use Rattle.numbers.proofs.rem_euclid.Tie as tie

@@ -1,4 +1,5 @@
--- `numbers::signum` meets its contract. Assumes nothing.
+-- `numbers::signum` meets its contract: a double unequal to itself is a NaN, and the only NaN is the definition's; otherwise what `negative` promises chooses -1 or 1,
+-- as in the definition. Assumes nothing.
 use mathlib.Core.Path.{_≡_, sym, _∙_}
 use Rattle.numbers.proofs.DoubleLaws.{ne-self, nan-only}
 use Rattle.numbers.specs.Double.{signum}

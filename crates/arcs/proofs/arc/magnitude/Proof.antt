@@ -1,4 +1,5 @@
--- `arcs::arc::magnitude` meets its contract. Assumes nothing.
+-- `arcs::arc::magnitude` meets its contract: what `pick` and `negative` promise is the negation where the sign is set, else the double itself. Case by case, for a NaN,
+-- an infinity and a finite double of each sign, that is `abs`. Assumes nothing.
 use mathlib.Core.Path.{_≡_, refl}
 use mathlib.Core.Bool.{true, false, cond}
 use lib.Ieee.{Float, nan, inf, fin, neg}

@@ -1,4 +1,4 @@
--- `body_freedom::body::about_axis` meets its contract. Assumes nothing.
+-- `body_freedom::body::about_axis` meets its contract: the promises of `turn_part`, `dot` and `abs`, each put into the next, are the definition. Assumes nothing.
 use mathlib.Core.Path.{ap, _∙_}
 use lib.Ieee.{Float}
 use Rattle.numbers.specs.Ops.{doubles}

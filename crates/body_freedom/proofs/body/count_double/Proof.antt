@@ -1,4 +1,5 @@
--- `body_freedom::body::count_double` meets its contract. Assumes nothing.
+-- `body_freedom::body::count_double` meets its contract: each test that holds selects the definition's case; a count that is none of 0, 1 and 2 is in its last
+-- (`count-many`). Assumes nothing.
 use Rattle.body_freedom.specs.Layout.{countDouble}
 use Rattle.body_freedom.proofs.BodyLaws.{count-many}
 use Rattle.body_freedom.proofs.body.count_double.Statement.{statement}

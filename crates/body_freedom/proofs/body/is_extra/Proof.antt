@@ -1,4 +1,5 @@
--- `body_freedom::body::is_extra` meets its contract. Assumes nothing.
+-- `body_freedom::body::is_extra` meets its contract: the definition is the conjunction of what `apart` promises and the test of the length that `len` promises; where
+-- `apart` is false, so is the whole. Assumes nothing.
 use borrow.Author.Needs.{needs}
 use Rattle.body_freedom.proofs.body.is_extra.Statement.{statement}
 use Rattle.body_freedom.proofs.body.is_extra.Tie as tie

@@ -1,4 +1,5 @@
--- `body_freedom::body::is_free` meets its contract. Assumes nothing.
+-- `body_freedom::body::is_free` meets its contract: the definition is the same disjunction; where its first test fails, the promise of `max` is put into that of
+-- `sqrt`. Assumes nothing.
 use Rattle.body_freedom.specs.Dof.{isFree}
 use borrow.Author.Needs.{needs}
 use Rattle.body_freedom.proofs.body.is_free.Statement.{statement}

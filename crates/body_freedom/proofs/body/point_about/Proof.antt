@@ -1,4 +1,5 @@
--- `body_freedom::body::point_about` meets its contract. Assumes nothing.
+-- `body_freedom::body::point_about` meets its contract: with no free motion the definition has the centre (`point-none`); with at least one, it has what `turn_point`
+-- promises of the motion that `most_about` promises (`point-some`). Assumes nothing.
 use native.Mathlib.Omega.{arith}
 use mathlib.Core.Path.{_≡_}
 use lib.ListN.{length, length-map}

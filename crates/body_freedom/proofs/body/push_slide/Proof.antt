@@ -1,4 +1,5 @@
--- `body_freedom::body::push_slide` meets its contract. Assumes nothing.
+-- `body_freedom::body::push_slide` meets its contract: the vectors are a list followed by zeros, so writing what `normalized` promises to the first free place puts it
+-- at the end of the list (`push`). Assumes nothing.
 use Rattle.vectors.specs.Vec.{vec, normalized}
 use Rattle.body_freedom.proofs.BodyLaws.{push}
 use borrow.Author.Needs.{needs}

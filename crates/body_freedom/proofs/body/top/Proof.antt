@@ -1,4 +1,4 @@
--- `body_freedom::body::top` meets its contract. Assumes nothing.
+-- `body_freedom::body::top` meets its contract: the promise of `largest_value`, put into that of `sqrt`, is the definition. Assumes nothing.
 use mathlib.Core.Path.{ap, _∙_}
 use Rattle.arcs.specs.Root.{root}
 use borrow.Author.Needs.{needs}

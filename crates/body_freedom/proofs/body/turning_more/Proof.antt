@@ -1,4 +1,5 @@
--- `body_freedom::body::turning_more` meets its contract. Assumes nothing.
+-- `body_freedom::body::turning_more` meets its contract: what `about_axis` promises of both motions, put into what `before` promises, makes the test the one that
+-- chooses between them. Assumes nothing.
 use borrow.Author.Needs.{needs}
 use Rattle.body_freedom.proofs.body.turning_more.Statement.{statement}
 use Rattle.body_freedom.proofs.body.turning_more.Tie as tie

@@ -1,4 +1,5 @@
--- `body_freedom::body::with_free` meets its contract. Assumes nothing.
+-- `body_freedom::body::with_free` meets its contract: what `is_free` promises decides the case. Where the motion is free, a pair written to the first free place stands
+-- behind the motions so far (`first-set`); else they stay. Assumes nothing.
 use native.Mathlib.Omega.{arith}
 use mathlib.Core.Path.{_≡_, sym, _∙_}
 use mathlib.Core.Bool.{true, false}

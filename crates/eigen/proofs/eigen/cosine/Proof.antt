@@ -1,4 +1,4 @@
--- `eigen::cosine` meets its contract. Assumes nothing.
+-- `eigen::cosine` meets its contract: with what `sqrt` promises the definition unfolds to the same operations. Assumes nothing.
 use borrow.Author.Needs.{needs}
 use Rattle.eigen.specs.Eigen.{cosineOf}
 use Rattle.eigen.proofs.eigen.cosine.Statement.{statement}

@@ -1,4 +1,4 @@
--- `eigen::one_at` meets its contract. Assumes nothing.
+-- `eigen::one_at` meets its contract: the test of equal indices is the definition's `eqb` on both paths. Assumes nothing.
 use borrow.Author.Tests.{eq-eqb, ne-eqb}
 use Rattle.eigen.proofs.eigen.one_at.Statement.{statement}
 use Rattle.eigen.proofs.eigen.one_at.Tie as tie

@@ -1,4 +1,4 @@
--- `eigen::settled` meets its contract. Assumes nothing.
+-- `eigen::settled` meets its contract: the promises of `off` and `diag`, the latter put into that of `max`, make the comparison the definition's. Assumes nothing.
 use borrow.Author.Needs.{needs}
 use Rattle.eigen.specs.Eigen.{settled}
 use Rattle.eigen.proofs.eigen.settled.Statement.{statement}

@@ -1,4 +1,5 @@
--- `eigen::tangent` meets its contract. Assumes nothing.
+-- `eigen::tangent` meets its contract: the definition has the same test for 0; where it fails, the promises of `signum`, `abs` and `sqrt` make the quotient the
+-- definition's. Assumes nothing.
 use borrow.Author.Needs.{needs}
 use Rattle.eigen.specs.Eigen.{tangentOf}
 use Rattle.eigen.proofs.eigen.tangent.Statement.{statement}

@@ -1,4 +1,5 @@
--- `least_squares::lm::damp` meets its contract. Assumes nothing.
+-- `least_squares::lm::damp` meets its contract. The invariant: the matrix is the one at entry with the first i entries of its diagonal damped (`dampTo`), and what
+-- stands outside it is kept. A place of the diagonal in the scratch is one of the matrix (`entry-at`, `set-entry`); the measure is the rows to come. Assumes nothing.
 use Rattle.least_squares.proofs.MemoryLaws.{part-set-above, part-set-below, kept-refl, kept-set, part-length, kept-at-below}
 use Rattle.least_squares.proofs.TableLaws.{in-rows}
 use Rattle.least_squares.proofs.LmLaws.{entry-at, set-entry}

@@ -1,4 +1,5 @@
--- `least_squares::lm::diag_max` meets its contract. Assumes nothing.
+-- `least_squares::lm::diag_max` meets its contract. The invariant: m is the largest of 0 and the first i entries of the diagonal (`diagTo`), where a place in the
+-- scratch is one of the matrix (`entry-at`). The measure is the rows to come; the last call of `max` is the definition's bound from below. Assumes nothing.
 use borrow.Author.Needs.{needs}
 use Rattle.least_squares.proofs.TableLaws.{in-rows}
 use Rattle.least_squares.proofs.LmLaws.{entry-at}

@@ -1,4 +1,5 @@
--- `least_squares::lm::gram` meets its contract. Assumes nothing.
+-- `least_squares::lm::gram` meets its contract. The invariant: t is the definition's sum of the first c terms. One more term is the step of `sumFrom`; the measure is
+-- the terms to come. Assumes nothing.
 use native.Mathlib.Omega.{arith}
 use Rattle.least_squares.specs.Lm.{gramAt}
 use Rattle.numbers.specs.Sum.{sumFrom}

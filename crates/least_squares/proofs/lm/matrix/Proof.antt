@@ -1,4 +1,6 @@
--- `least_squares::lm::matrix` meets its contract. Assumes nothing.
+-- `least_squares::lm::matrix` meets its contract. The invariant: the first i rows are the definition's for the slopes and weights at entry, and nothing outside the
+-- matrix is changed. So the next row has the same slopes and weights (`same-normal`) and finds above the diagonal what it copies; all rows are the matrix (`rows-all`).
+-- The measure is the rows to come. Assumes nothing.
 use Rattle.least_squares.proofs.LmLaws.{Entries, rows-step, rows-all, same-normal}
 use Rattle.least_squares.proofs.MemoryLaws.{kept-refl}
 use Rattle.least_squares.specs.Memory.{Kept}

@@ -1,4 +1,5 @@
--- `least_squares::lm::max_abs` meets its contract. Assumes nothing.
+-- `least_squares::lm::max_abs` meets its contract. The invariant: m is the definition's value of the first i entries. One more entry is what `max_abs_step` promises
+-- (`maxAbs-step`); the measure is the entries to come. Assumes nothing.
 use borrow.Author.Needs.{needs}
 use native.Mathlib.Omega.{arith}
 use Rattle.numbers.proofs.Loops.{maxAbs-none, maxAbs-step}

@@ -1,4 +1,5 @@
--- `least_squares::lm::max_abs_step` meets its contract. Assumes nothing.
+-- `least_squares::lm::max_abs_step` meets its contract: what `is_finite` promises decides the definition's case. For a finite row the promise of `abs` is put into that
+-- of `max`; for another 1 over 0 computes to the definition's infinity. Assumes nothing.
 use Rattle.numbers.specs.MaxAbs.{maxAbsStep}
 use mathlib.Core.Path.{_∙_, sym}
 use lib.Ieee.{div, ofBits}

@@ -1,4 +1,5 @@
--- `least_squares::lm::norm2` meets its contract. Assumes nothing.
+-- `least_squares::lm::norm2` meets its contract. The invariant: t is the sum of the first i squares from -0. One more square is the step of `sumFrom`; the measure is
+-- the entries to come. Assumes nothing.
 use native.Mathlib.Omega.{arith}
 use Rattle.least_squares.specs.Lm.{norm2}
 use Rattle.numbers.specs.Double.{zero64}

@@ -1,4 +1,6 @@
--- `least_squares::lm::step` meets its contract. Assumes nothing.
+-- `least_squares::lm::step` meets its contract. The invariant: the first c unknowns at z are the definition's for the parts at entry, and nothing but the places of z
+-- is changed. Those parts stand before z, so `stepped_at` reads them as at entry (`step-step`); all n are the step (`step-all`). The measure is the unknowns to come.
+-- Assumes nothing.
 use Rattle.least_squares.proofs.LmLaws.{step-all}
 use Rattle.least_squares.proofs.LmLaws.{step-step, list-ext}
 use Rattle.least_squares.proofs.MemoryLaws.{kept-refl, part-length, part-at}

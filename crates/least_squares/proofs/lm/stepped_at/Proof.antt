@@ -1,4 +1,5 @@
--- `least_squares::lm::stepped_at` meets its contract. Assumes nothing.
+-- `least_squares::lm::stepped_at` meets its contract. The invariant: t is the sum of the first i products of column c of the slopes and y, read from the scratch. At
+-- the end that sum, read from the parts, is the definition's (`stepped-is`); the measure is the rows to come. Assumes nothing.
 use Rattle.least_squares.proofs.LmLaws.{columnTerm, stepped-is}
 use Rattle.least_squares.proofs.TableLaws.{in-rows}
 use Rattle.numbers.specs.Double.{zero64}

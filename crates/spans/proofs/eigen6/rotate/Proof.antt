@@ -1,4 +1,5 @@
--- `eigen6::rotate` meets its contract. Assumes nothing.
+-- `eigen6::rotate` meets its contract: `turns` decides the definition's case as it decides the path. Where it is set, the promise of `turn_columns` is put into that of
+-- `turn_rows`; else the matrix is as it was. Assumes nothing.
 use borrow.Author.Needs.{needs}
 use Rattle.spans.proofs.eigen6.rotate.Statement.{statement}
 use Rattle.spans.proofs.eigen6.rotate.Tie as tie

@@ -1,4 +1,5 @@
--- `eigen6::rotate_vectors` meets its contract. Assumes nothing.
+-- `eigen6::rotate_vectors` meets its contract: `turns` decides the definition's case as it decides the path: what `turn_columns` promises, or the product as it was.
+-- Assumes nothing.
 use borrow.Author.Needs.{needs}
 use Rattle.spans.proofs.eigen6.rotate_vectors.Statement.{statement}
 use Rattle.spans.proofs.eigen6.rotate_vectors.Tie as tie

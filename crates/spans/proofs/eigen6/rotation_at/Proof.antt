@@ -1,4 +1,5 @@
--- `eigen6::rotation_at` meets its contract. Assumes nothing.
+-- `eigen6::rotation_at` meets its contract: what `abs` promises makes the test the definition's, so the path is its case: no turn, or the cosine and sine from what
+-- `tangent` promises put into what `cosine` promises. Assumes nothing.
 use borrow.Author.Needs.{needs}
 use Rattle.spans.proofs.eigen6.rotation_at.Statement.{statement}
 use Rattle.spans.proofs.eigen6.rotation_at.Tie as tie

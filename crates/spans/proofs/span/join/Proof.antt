@@ -1,4 +1,6 @@
--- `span::join` meets its contract. Assumes nothing.
+-- `span::join` meets its contract: with what `without` and `len` promise, both tests are the definition's. Where they hold, writing the unit vector of the rest to the
+-- first free place is the longer list's basis (`join-grows`); where one fails, the basis stays (`join-stays`). The basis has three places, so its count is at most 3.
+-- Assumes nothing.
 use native.Mathlib.Omega.{arith}
 use borrow.Author.Needs.{needs}
 use mathlib.Core.Path.{ap, _∙_}

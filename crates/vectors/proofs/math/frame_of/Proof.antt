@@ -1,4 +1,5 @@
--- `vectors::math::frame_of` meets its contract. Assumes nothing.
+-- `vectors::math::frame_of` meets its contract: the promises of the two calls of `col`, put into that of `Frame::new`, are the definition: columns 2 and 0 are the rows
+-- of the transpose that it names. Assumes nothing.
 use Rattle.vectors.specs.Math.{col}
 use Rattle.vectors.proofs.math.frame_of.Statement.{statement}
 use Rattle.vectors.proofs.math.frame_of.Tie as tie

@@ -1,4 +1,5 @@
--- `vectors::math::half_turn` meets its contract. Assumes nothing.
+-- `vectors::math::half_turn` meets its contract: on both paths of the test the vector p is the one that the definition chooses; from there each call's promise is put
+-- into the next (`about`). Assumes nothing.
 use mathlib.Core.Path.{_≡_, _∙_, ap}
 use mathlib.Core.Bool.{cond}
 use mathlib.Core.Logic.{⊎-elim}

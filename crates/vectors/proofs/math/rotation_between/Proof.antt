@@ -1,4 +1,5 @@
--- `vectors::math::rotation_between` meets its contract. Assumes nothing.
+-- `vectors::math::rotation_between` meets its contract: `cross`, `dot`, `clamp` and `len` promise the numbers that the definition tests, so the path is its case: the
+-- same direction (`same`), opposite ones (`opposite`) or any other (`apart`), where each call's promise is put into the next. Assumes nothing.
 use mathlib.Core.Path.{_≡_, _∙_}
 use mathlib.Core.Bool.{true, false}
 use lib.Ieee.{Float, binary64, lt, ofBits}

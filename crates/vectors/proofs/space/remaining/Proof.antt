@@ -1,4 +1,4 @@
--- `vectors::space::remaining` meets its contract. Assumes nothing.
+-- `vectors::space::remaining` meets its contract: the promises of `dot`, `scale` and `sub`, each put into the next, are the definition. Assumes nothing.
 use mathlib.Core.Path.{_≡_, _∙_}
 use lib.Ieee.{Float}
 use Rattle.numbers.specs.Ops.{doubles}

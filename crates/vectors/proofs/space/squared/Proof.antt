@@ -1,4 +1,5 @@
--- `vectors::space::squared` meets its contract. Assumes nothing.
+-- `vectors::space::squared` meets its contract: the length that `len` promises decides the definition's case as it decides the path: none (`short`), or the frame of
+-- what `normalized` and `cross` promise (`long`). Assumes nothing.
 use mathlib.Core.Path.{_≡_}
 use mathlib.Core.Bool.{true, false}
 use mathlib.Core.Option.{Option, none, some}

@@ -1,4 +1,5 @@
--- `vectors::math::M3::col` meets its contract. Assumes nothing.
+-- `vectors::math::M3::col` meets its contract: the keys 0 and 1 select the definition's first two columns; an index that is neither is at least 2, where the definition
+-- has the last (`last`). Assumes nothing.
 use Prim.Native.Nat.{ℕ, zero, suc}
 use mathlib.Core.Path.{_≡_, refl, _∙_}
 use lib.Ieee.{Float}

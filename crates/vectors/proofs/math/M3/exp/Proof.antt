@@ -1,4 +1,5 @@
--- `vectors::math::M3::exp` meets its contract. Assumes nothing.
+-- `vectors::math::M3::exp` meets its contract: the length that `len` promises decides the definition's case as it decides the path. Below 1e-12 `linear` promises the
+-- value; from there on the promises of `scale` and `sine_cosine` are put into that of `rodrigues`. Assumes nothing.
 use mathlib.Core.Path.{_≡_, _∙_}
 use mathlib.Core.Bool.{true, false}
 use lib.Ieee.{Float, binary64, sub, div, lt, ofBits}

@@ -1,4 +1,4 @@
--- `vectors::math::M3::mul` meets its contract. Assumes nothing.
+-- `vectors::math::M3::mul` meets its contract: the definition's rows are the three that `row_mul` promises. Assumes nothing.
 use mathlib.Core.Path.{_≡_}
 use lib.Ieee.{Float}
 use Rattle.vectors.specs.Vec.{Vec}

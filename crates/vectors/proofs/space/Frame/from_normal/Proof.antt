@@ -1,4 +1,5 @@
--- `vectors::space::Frame::from_normal` meets its contract. Assumes nothing.
+-- `vectors::space::Frame::from_normal` meets its contract: the promises of `normalized` and `abs` make the test the definition's, so the hint on each path is the one
+-- it chooses (`hinted`), and `Frame::new` promises the rest. Assumes nothing.
 use mathlib.Core.Path.{_≡_, _∙_}
 use mathlib.Core.Bool.{Bool, cond}
 use lib.Ieee.{Float, binary64, lt, ofBits}

@@ -1,4 +1,5 @@
--- `vectors::space::Frame::new` meets its contract. Assumes nothing.
+-- `vectors::space::Frame::new` meets its contract: the definition has the same four tests in the same order. On each path what `is_finite` and `len` promise of the
+-- tests passed decides its case; at the end the promises of `normalized` and `remaining` are put into that of `squared` (`short`, `long`). Assumes nothing.
 use mathlib.Core.Path.{_≡_, _∙_}
 use mathlib.Core.Bool.{Bool, true, false, not}
 use mathlib.Core.Option.{Option, none}

@@ -1,4 +1,5 @@
--- `vectors::vec::Vec3::is_finite` meets its contract. Assumes nothing.
+-- `vectors::vec::Vec3::is_finite` meets its contract: the definition is the conjunction of the three that `numbers::is_finite` promises; a path that ends early has
+-- found one of them false. Assumes nothing.
 use Rattle.vectors.specs.Vec.{isFiniteV}
 use Rattle.vectors.proofs.vec.Vec3.is_finite.Statement.{statement}
 use Rattle.vectors.proofs.vec.Vec3.is_finite.Tie as tie

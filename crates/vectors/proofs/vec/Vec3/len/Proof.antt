@@ -1,4 +1,4 @@
--- `vectors::vec::Vec3::len` meets its contract. Assumes nothing.
+-- `vectors::vec::Vec3::len` meets its contract: the definition is the root that `sqrt` promises, of the sum that `dot` promises. Assumes nothing.
 use Rattle.vectors.specs.Vec.{len}
 use Rattle.vectors.proofs.vec.Vec3.len.Statement.{statement}
 use Rattle.vectors.proofs.vec.Vec3.len.Tie as tie

@@ -1,4 +1,5 @@
--- `vectors::vec::Vec3::normalized` meets its contract. Assumes nothing.
+-- `vectors::vec::Vec3::normalized` meets its contract: the length that `len` promises decides the definition's case as it decides the path: the vector scaled as
+-- `scale` promises (`long`), or zero (`short`). Assumes nothing.
 use mathlib.Core.Path.{_≡_, _∙_}
 use mathlib.Core.Bool.{true, false}
 use lib.Ieee.{Float, binary64, div, lt}
