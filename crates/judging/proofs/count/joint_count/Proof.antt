@@ -1,4 +1,4 @@
--- `judging::count::joint_count` meets its contract. Assumes nothing.
+-- `judging::count::joint_count` meets its contract: each arm tells the kind, and there the table `jointCount` computes to the arm's number. Assumes nothing.
 use Rattle.judging.specs.Count.{jointCount}
 use borrow.Author.Needs.{needs}
 use Rattle.judging.proofs.count.joint_count.Statement.{statement}

@@ -1,4 +1,4 @@
--- `judging::judge::check` meets its contract. Assumes nothing.
+-- `judging::judge::check` meets its contract: the test is what `suits` promises, and the branch fixes the side that the definition's `cond` takes. Assumes nothing.
 use Rattle.judging.specs.Judge.{check}
 use Rattle.judging.proofs.judge.check.Statement.{statement}
 use Rattle.judging.proofs.judge.check.Tie as tie

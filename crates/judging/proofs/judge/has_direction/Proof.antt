@@ -1,4 +1,4 @@
--- `judging::judge::has_direction` meets its contract. Assumes nothing.
+-- `judging::judge::has_direction` meets its contract: each arm tells the primitive, and there `hasDirection` computes to the arm's answer. Assumes nothing.
 use Rattle.judging.specs.Judge.{hasDirection}
 use borrow.Author.Needs.{needs}
 use Rattle.judging.proofs.judge.has_direction.Statement.{statement}

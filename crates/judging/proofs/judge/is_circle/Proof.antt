@@ -1,4 +1,4 @@
--- `judging::judge::is_circle` meets its contract. Assumes nothing.
+-- `judging::judge::is_circle` meets its contract: each arm tells the primitive, and there `isCircle` computes to the arm's answer. Assumes nothing.
 use Rattle.judging.specs.Judge.{isCircle}
 use borrow.Author.Needs.{needs}
 use Rattle.judging.proofs.judge.is_circle.Statement.{statement}

@@ -1,4 +1,5 @@
--- `judging::judge::is_round` meets its contract. Assumes nothing.
+-- `judging::judge::is_round` meets its contract: the test of the radius is the left side of the definition's `&&`; where it holds, `line_or_point` promises the right
+-- side, and else both answers are false. Assumes nothing.
 use Rattle.judging.specs.Judge.{isRound}
 use Rattle.judging.proofs.judge.is_round.Statement.{statement}
 use Rattle.judging.proofs.judge.is_round.Tie as tie

@@ -1,4 +1,4 @@
--- `judging::judge::is_tangent` meets its contract. Assumes nothing.
+-- `judging::judge::is_tangent` meets its contract: each arm tells the law, and there `isTangent` computes to the arm's answer. Assumes nothing.
 use Rattle.judging.specs.Judge.{isTangent}
 use borrow.Author.Needs.{needs}
 use Rattle.judging.proofs.judge.is_tangent.Statement.{statement}

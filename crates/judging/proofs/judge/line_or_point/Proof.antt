@@ -1,4 +1,4 @@
--- `judging::judge::line_or_point` meets its contract. Assumes nothing.
+-- `judging::judge::line_or_point` meets its contract: each arm tells the primitive, and there `lineOrPoint` computes to the arm's answer. Assumes nothing.
 use Rattle.judging.specs.Judge.{lineOrPoint}
 use borrow.Author.Needs.{needs}
 use Rattle.judging.proofs.judge.line_or_point.Statement.{statement}

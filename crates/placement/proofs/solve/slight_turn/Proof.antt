@@ -1,4 +1,5 @@
--- `placement::solve::slight_turn` meets its contract. Assumes nothing.
+-- `placement::solve::slight_turn` meets its contract: each way through the tests of i fixes the definition's `leb` and `eqb`, and there its `cond` computes to the
+-- double that is returned. The code's -0.03 is a negated double, and that computes to the definition's bits. Assumes nothing.
 use borrow.Author.Tests.{le-leb, lt-leb, eq-eqb, ne-eqb}
 use lib.Ieee.{neg, ofBits}
 use Rattle.scene.specs.Solve.{slightTurn}

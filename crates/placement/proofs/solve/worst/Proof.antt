@@ -1,4 +1,5 @@
--- `placement::solve::worst` meets its contract. Assumes nothing.
+-- `placement::solve::worst` meets its contract: `rows_at` promises that the rows at the unknowns from x on stand at `ahead` and that nothing before `ahead` has
+-- changed, and `largest` promises the largest magnitude among those rows (`worst-is`). Assumes nothing.
 use native.Mathlib.Omega.{arith}
 use borrow.Author.Needs.{needs}
 use Rattle.scene.specs.Scene.{sceneOf}

@@ -1,4 +1,5 @@
--- `refusals::lent::dof_fault` meets its contract. Assumes nothing.
+-- `refusals::lent::dof_fault` meets its contract: a fault of the sheet comes first (`dof-first`). A sheet that passes has a header, so its count of bodies can be read,
+-- and the number is that of what is lent (`dof-lent`): 10, 9 or 0 by the two comparisons (`slice-short`, `scratch-short`, `all-lent`). Assumes nothing.
 use mathlib.Core.Path.{sym, _∙_}
 use native.Mathlib.Omega.{arith}
 use borrow.Author.Needs.{needs}

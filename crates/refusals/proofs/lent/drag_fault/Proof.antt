@@ -1,4 +1,5 @@
--- `refusals::lent::drag_fault` meets its contract. Assumes nothing.
+-- `refusals::lent::drag_fault` meets its contract: the sheet passes, so it has a header and its count of bodies can be read. The three ends are a law each, by the
+-- definition's two tests, whether the drag is 65535 and whether it is below the count (`drag-none`, `drag-there`, `drag-missing`). Assumes nothing.
 use native.Mathlib.Omega.{arith}
 use Rattle.format.proofs.RefusalLaws.{sheet-passes}
 use Rattle.refusals.proofs.LentLaws.{drag-none, drag-there, drag-missing}

@@ -1,4 +1,4 @@
--- `relations::geometry::frame_or` meets its contract. Assumes nothing.
+-- `relations::geometry::frame_or` meets its contract: an arm tells whether a frame was made, and there `frameOr` computes to it or to the other. Assumes nothing.
 use borrow.Author.Needs.{needs}
 use Rattle.relations.proofs.geometry.frame_or.Statement.{statement}
 use Rattle.relations.proofs.geometry.frame_or.Tie as tie

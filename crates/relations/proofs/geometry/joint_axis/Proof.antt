@@ -1,4 +1,5 @@
--- `relations::geometry::joint_axis` meets its contract. Assumes nothing.
+-- `relations::geometry::joint_axis` meets its contract: an arm tells whether there is a direction, and there `jointAxis` computes; without one the branch fixes the
+-- side that its `cond` takes, and `neg` promises -Z where mirrored. Assumes nothing.
 use Rattle.relations.specs.Geometry.{jointAxis}
 use borrow.Author.Needs.{needs}
 use Rattle.relations.proofs.Values.{vec-is}

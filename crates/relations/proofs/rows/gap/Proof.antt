@@ -1,4 +1,4 @@
--- `relations::rows::gap` meets its contract. Assumes nothing.
+-- `relations::rows::gap` meets its contract: what `sub` promises is put into what `dot` promises, and the last subtraction is the definition's own. Assumes nothing.
 use Rattle.relations.proofs.Values.{vec-is}
 use Rattle.relations.proofs.rows.gap.Statement.{statement}
 use Rattle.relations.proofs.rows.gap.Tie as tie

@@ -1,4 +1,4 @@
--- `relations::rows::is_plane` meets its contract. Assumes nothing.
+-- `relations::rows::is_plane` meets its contract: each arm tells the primitive, and there `isPlane` computes to the arm's answer. Assumes nothing.
 use Rattle.relations.specs.Rows.{isPlane}
 use borrow.Author.Needs.{needs}
 use Rattle.relations.proofs.rows.is_plane.Statement.{statement}

@@ -1,4 +1,5 @@
--- `relations::rows::mate_prim` meets its contract. Assumes nothing.
+-- `relations::rows::mate_prim` meets its contract: each arm tells the primitive, and there `matePrim` computes to what the arm makes: a circle's axis as a line, any
+-- other as it is. Assumes nothing.
 use Rattle.relations.specs.Rows.{matePrim}
 use borrow.Author.Needs.{needs}
 use Rattle.relations.proofs.rows.mate_prim.Statement.{statement}

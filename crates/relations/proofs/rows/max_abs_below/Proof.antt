@@ -1,4 +1,5 @@
--- `relations::rows::max_abs_below` meets its contract. Assumes nothing.
+-- `relations::rows::max_abs_below` meets its contract: the comparison of k with n fixes the definition's `ltb` (`lt-ltb`, `le-ltb`), and where row k is there
+-- `max_abs_step` promises the step. Assumes nothing.
 use borrow.Author.Tests.{lt-ltb, le-ltb}
 use Rattle.relations.specs.Rows.{stepBelow}
 use Rattle.relations.proofs.rows.max_abs_below.Statement.{statement}

@@ -1,4 +1,5 @@
--- `relations::rows::mirror_turn` meets its contract. Assumes nothing.
+-- `relations::rows::mirror_turn` meets its contract: what `dot` promises is put into what `scale` promises, and that into what `sub` promises; the doubling after `dot`
+-- is the definition's own. Assumes nothing.
 use Rattle.relations.proofs.Values.{vec-is}
 use Rattle.relations.proofs.rows.mirror_turn.Statement.{statement}
 use Rattle.relations.proofs.rows.mirror_turn.Tie as tie

@@ -1,4 +1,4 @@
--- `relations::rows::off_axis` meets its contract. Assumes nothing.
+-- `relations::rows::off_axis` meets its contract: what `sub` promises of the origins is put into what `perp` promises, and that is `offAxis`. Assumes nothing.
 use Rattle.relations.proofs.Values.{vec-is}
 use Rattle.relations.proofs.rows.off_axis.Statement.{statement}
 use Rattle.relations.proofs.rows.off_axis.Tie as tie

@@ -1,4 +1,4 @@
--- `relations::rows::origins` meets its contract. Assumes nothing.
+-- `relations::rows::origins` meets its contract: `originsApart` is two differences and a multiple, and each call's promise is put into the next. Assumes nothing.
 use Rattle.relations.proofs.Values.{vec-is}
 use Rattle.relations.proofs.rows.origins.Statement.{statement}
 use Rattle.relations.proofs.rows.origins.Tie as tie

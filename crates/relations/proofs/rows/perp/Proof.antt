@@ -1,4 +1,5 @@
--- `relations::rows::perp` meets its contract. Assumes nothing.
+-- `relations::rows::perp` meets its contract: `perp` is three operations, and what `dot` promises is put into what `scale` promises, and that into what
+-- `sub` promises. Assumes nothing.
 use Rattle.relations.proofs.Values.{vec-is}
 use Rattle.relations.proofs.rows.perp.Statement.{statement}
 use Rattle.relations.proofs.rows.perp.Tie as tie

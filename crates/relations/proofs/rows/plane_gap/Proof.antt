@@ -1,4 +1,5 @@
--- `relations::rows::plane_gap` meets its contract. Assumes nothing.
+-- `relations::rows::plane_gap` meets its contract: `max` promises the larger radius, and the branch fixes the side that the definition's `cond` takes: the radius is
+-- negated where `inside`. Assumes nothing.
 use Rattle.relations.specs.Rows.{planeGap}
 use Rattle.relations.proofs.rows.plane_gap.Statement.{statement}
 use Rattle.relations.proofs.rows.plane_gap.Tie as tie

@@ -1,4 +1,5 @@
--- `relations::rows::round_gap` meets its contract. Assumes nothing.
+-- `relations::rows::round_gap` meets its contract: the branch fixes the side that the definition's `cond` takes, and inside `abs` promises the magnitude of the
+-- difference. Assumes nothing.
 use Rattle.relations.specs.Rows.{roundGap}
 use Rattle.relations.proofs.rows.round_gap.Statement.{statement}
 use Rattle.relations.proofs.rows.round_gap.Tie as tie

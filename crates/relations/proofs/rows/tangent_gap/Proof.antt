@@ -1,4 +1,5 @@
--- `relations::rows::tangent_gap` meets its contract. Assumes nothing.
+-- `relations::rows::tangent_gap` meets its contract: the branch fixes the side that the definition's `cond` takes, and `plane_gap` or `round_gap`
+-- promises that side. Assumes nothing.
 use Rattle.relations.specs.Rows.{tangentGap}
 use Rattle.relations.proofs.rows.tangent_gap.Statement.{statement}
 use Rattle.relations.proofs.rows.tangent_gap.Tie as tie

@@ -1,4 +1,5 @@
--- `relations::rows::turn` meets its contract. Assumes nothing.
+-- `relations::rows::turn` meets its contract: `turn` unfolds to the operations that the code calls, and the promises of `cross`, of both `dot` and of `arctangent` are
+-- put into one another. Assumes nothing.
 use Rattle.relations.specs.Rows.{turn}
 use Rattle.relations.proofs.Values.{vec-is}
 use Rattle.relations.proofs.rows.turn.Statement.{statement}

@@ -1,4 +1,5 @@
--- `relations::rows::turned` meets its contract. Assumes nothing.
+-- `relations::rows::turned` meets its contract: `turnedBy` unfolds to `wrap` of a difference, and what `turn` promises of the angle is put into what
+-- `wrap` promises. Assumes nothing.
 use Rattle.relations.specs.Rows.{turnedBy}
 use Rattle.relations.proofs.rows.turned.Statement.{statement}
 use Rattle.relations.proofs.rows.turned.Tie as tie

@@ -1,4 +1,5 @@
--- `relations::rows::wrap` meets its contract. Assumes nothing.
+-- `relations::rows::wrap` meets its contract: `rem_euclid` promises the definition's remainder, and the branch fixes the side that the definition's
+-- `cond` takes. Assumes nothing.
 use Rattle.relations.specs.Rows.{wrap}
 use Rattle.relations.proofs.rows.wrap.Statement.{statement}
 use Rattle.relations.proofs.rows.wrap.Tie as tie

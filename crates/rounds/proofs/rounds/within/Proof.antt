@@ -1,4 +1,5 @@
--- `rounds::rounds::within` meets its contract. Assumes nothing.
+-- `rounds::rounds::within` meets its contract: `largest` promises the largest magnitude among the rows, and the comparison with the tolerance is the
+-- definition's own. Assumes nothing.
 use borrow.Author.Needs.{needs}
 use Rattle.rounds.proofs.rounds.within.Statement.{statement}
 use Rattle.rounds.proofs.rounds.within.Tie as tie

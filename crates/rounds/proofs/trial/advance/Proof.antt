@@ -1,4 +1,5 @@
--- `rounds::trial::advance` meets its contract. Assumes nothing.
+-- `rounds::trial::advance` meets its contract: the unknowns are written at `next` and their rows at `ahead`, behind them, so those unknowns stand and the rows are
+-- theirs; nothing before `next` has changed, and `squares` promises the sum (`advanced`). Assumes nothing.
 use native.Mathlib.Omega.{arith}
 use borrow.Author.Needs.{needs}
 use Rattle.scene.specs.Scene.{sceneOf}

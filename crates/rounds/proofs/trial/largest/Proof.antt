@@ -1,4 +1,5 @@
--- `rounds::trial::largest` meets its contract. Assumes nothing.
+-- `rounds::trial::largest` meets its contract: `max_abs` promises the largest magnitude over the slice that it is lent, from o up to o + k, and that slice, o + k - o
+-- doubles long, is the part of k doubles from o on. Assumes nothing.
 use mathlib.Core.Path.{_≡_}
 use Prim.Native.Nat.{_+_, _-_}
 use native.Mathlib.Omega.{arith}

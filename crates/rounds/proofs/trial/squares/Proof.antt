@@ -1,4 +1,5 @@
--- `rounds::trial::squares` meets its contract. Assumes nothing.
+-- `rounds::trial::squares` meets its contract: `norm2` promises the sum over the slice that it is lent, from o up to o + k, and that slice, o + k - o doubles long, is
+-- the part of k doubles from o on. Assumes nothing.
 use mathlib.Core.Path.{_≡_}
 use Prim.Native.Nat.{_+_, _-_}
 use native.Mathlib.Omega.{arith}

@@ -1,4 +1,5 @@
--- `rounds::trial::take_step` meets its contract. Assumes nothing.
+-- `rounds::trial::take_step` meets its contract: the arrangement sets the places of both copies apart. The first leaves the rows at `ahead`, the second the unknowns at
+-- `x`, and neither writes the weights, the slopes, the matrix or the first run's unknowns (`step-taken`). Assumes nothing.
 use borrow.Author.Needs.{needs}
 use Rattle.rounds.proofs.TrialLaws.{step-taken}
 use Rattle.rounds.proofs.trial.take_step.Statement.{statement}

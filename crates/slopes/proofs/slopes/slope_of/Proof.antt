@@ -1,4 +1,5 @@
--- `slopes::slopes::slope_of` meets its contract. Assumes nothing.
+-- `slopes::slopes::slope_of` meets its contract: the quotient is the definition's own, `is_finite` promises the definition's test of it, and the branch fixes the side
+-- that `cond` takes. Assumes nothing.
 use mathlib.Core.Path.{sym, _∙_}
 use borrow.Author.Needs.{needs}
 use Rattle.slopes.proofs.slopes.slope_of.Statement.{statement}

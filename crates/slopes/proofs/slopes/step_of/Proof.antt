@@ -1,4 +1,4 @@
--- `slopes::slopes::step_of` meets its contract. Assumes nothing.
+-- `slopes::slopes::step_of` meets its contract: `stepOf` unfolds to the same product, and what `abs` promises is put into what `max` promises. Assumes nothing.
 use borrow.Author.Needs.{needs}
 use Rattle.least_squares.specs.Lm.{stepOf}
 use Rattle.slopes.proofs.slopes.step_of.Statement.{statement}

@@ -1,4 +1,5 @@
--- `relations::geometry::Prim::direction` meets its contract. Assumes nothing.
+-- `relations::geometry::Prim::direction` meets its contract: each arm tells the primitive, and there `directionOf` computes to the direction that the arm gives, or to
+-- none for a point. Assumes nothing.
 use Rattle.relations.specs.Geometry.{directionOf}
 use borrow.Author.Needs.{needs}
 use Rattle.relations.proofs.geometry.Prim.direction.Statement.{statement}

@@ -1,4 +1,4 @@
--- `relations::geometry::Prim::point` meets its contract. Assumes nothing.
+-- `relations::geometry::Prim::point` meets its contract: each arm tells the primitive, and there `pointOf` computes to the point that the arm gives. Assumes nothing.
 use Rattle.relations.specs.Geometry.{pointOf}
 use borrow.Author.Needs.{needs}
 use Rattle.relations.proofs.geometry.Prim.point.Statement.{statement}

@@ -1,4 +1,5 @@
--- `relations::model::Pose::of` meets its contract. Assumes nothing.
+-- `relations::model::Pose::of` meets its contract: what `of_frame` promises of the matrix's numbers gives the matrix (`mat-is`), and the position is the frame's
+-- origin, as in the definition. Assumes nothing.
 use Rattle.relations.proofs.Values.{mat-is}
 use Rattle.relations.proofs.model.Pose.of.Statement.{statement}
 use Rattle.relations.proofs.model.Pose.of.Tie as tie

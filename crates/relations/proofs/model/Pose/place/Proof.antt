@@ -1,4 +1,5 @@
--- `relations::model::Pose::place` meets its contract. Assumes nothing.
+-- `relations::model::Pose::place` meets its contract: the definition's `place` is two operations, which `apply` and `add` promise. A promise of a vector's numbers
+-- gives the vector (`vec-is`), and so the first is put into the second. Assumes nothing.
 use Rattle.relations.proofs.Values.{vec-is}
 use Rattle.relations.proofs.model.Pose.place.Statement.{statement}
 use Rattle.relations.proofs.model.Pose.place.Tie as tie

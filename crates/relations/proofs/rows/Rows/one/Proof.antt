@@ -1,4 +1,5 @@
--- `relations::rows::Rows::one` meets its contract. Assumes nothing.
+-- `relations::rows::Rows::one` meets its contract: of a list of one number `pack` computes to that number and +0 in the six places after it, as the code
+-- writes them. Assumes nothing.
 use mathlib.Core.Path.{refl}
 use Rattle.relations.specs.Rows.{pack}
 use Rattle.relations.proofs.rows.Rows.one.Statement.{statement}

@@ -1,4 +1,5 @@
--- `relations::rows::Rows::seven` meets its contract. Assumes nothing.
+-- `relations::rows::Rows::seven` meets its contract: `push3` and `pack` compute to the numbers of v, then those of w, then x, which are all seven places, as the code
+-- writes them. Assumes nothing.
 use mathlib.Core.Path.{refl}
 use Rattle.relations.specs.Rows.{pack}
 use Rattle.relations.proofs.rows.Rows.seven.Statement.{statement}

@@ -1,4 +1,5 @@
--- `relations::rows::Rows::six` meets its contract. Assumes nothing.
+-- `relations::rows::Rows::six` meets its contract: `push3` and `pack` compute to the numbers of v, then those of w, and +0 in the last place, as the
+-- code writes them. Assumes nothing.
 use mathlib.Core.Path.{refl}
 use Rattle.relations.specs.Rows.{pack}
 use Rattle.relations.proofs.rows.Rows.six.Statement.{statement}

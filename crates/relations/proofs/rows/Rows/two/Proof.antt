@@ -1,4 +1,5 @@
--- `relations::rows::Rows::two` meets its contract. Assumes nothing.
+-- `relations::rows::Rows::two` meets its contract: of a list of two numbers `pack` computes to both and +0 in the five places after them, as the code
+-- writes them. Assumes nothing.
 use mathlib.Core.Path.{refl}
 use Rattle.relations.specs.Rows.{pack}
 use Rattle.relations.proofs.rows.Rows.two.Statement.{statement}
