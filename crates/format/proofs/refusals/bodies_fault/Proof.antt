@@ -1,4 +1,5 @@
--- `format::refusals::bodies_fault` meets its contract. Assumes nothing.
+-- `format::refusals::bodies_fault` meets its contract. The invariant: at most m bodies are passed, and the number held is the first fault among them; one more body is
+-- one more step of the definition (`bodies-more`). The measure is the bodies to come; at the end none are, and the number is that of all m. Assumes nothing.
 use mathlib.Core.Path.{_≡_, refl, _∙_}
 use Prim.Native.Nat.{_≤_, _-_}
 use native.Mathlib.Omega.{arith}

@@ -1,4 +1,5 @@
--- `format::refusals::body_limits` meets its contract. Assumes nothing.
+-- `format::refusals::body_limits` meets its contract: the definition unfolds to the same six tests in the same order, each of them what one call promises.
+-- Assumes nothing.
 use Rattle.format.specs.Faults.{bodyLimits}
 use borrow.Author.Needs.{needs}
 use Rattle.format.proofs.refusals.body_limits.Statement.{statement}

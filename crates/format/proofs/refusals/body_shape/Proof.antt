@@ -1,4 +1,5 @@
--- `format::refusals::body_shape` meets its contract. Assumes nothing.
+-- `format::refusals::body_shape` meets its contract: the definition unfolds to the same comparison of the first byte and to the test of zeros that `zero_bytes`
+-- promises. Assumes nothing.
 use Rattle.format.specs.Faults.{bodyShape}
 use borrow.Author.Needs.{needs}
 use Rattle.format.proofs.refusals.body_shape.Statement.{statement}

@@ -1,4 +1,5 @@
--- `format::refusals::byte_up_to` meets its contract. Assumes nothing.
+-- `format::refusals::byte_up_to` meets its contract: in each branch it is known whether the byte is used, and by that the definition computes to the same comparison.
+-- Assumes nothing.
 use Rattle.format.specs.Faults.{byteUpTo}
 use Rattle.format.proofs.refusals.byte_up_to.Statement.{statement}
 use Rattle.format.proofs.refusals.byte_up_to.Tie as tie

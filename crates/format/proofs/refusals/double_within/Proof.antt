@@ -1,4 +1,4 @@
--- `format::refusals::double_within` meets its contract. Assumes nothing.
+-- `format::refusals::double_within` meets its contract: the double that `double_at` promises is put into what `within` promises of it. Assumes nothing.
 use borrow.Author.Needs.{needs}
 use Rattle.format.proofs.refusals.double_within.Statement.{statement}
 use Rattle.format.proofs.refusals.double_within.Tie as tie

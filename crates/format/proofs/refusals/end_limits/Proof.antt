@@ -1,4 +1,5 @@
--- `format::refusals::end_limits` meets its contract. Assumes nothing.
+-- `format::refusals::end_limits` meets its contract: the definition unfolds to the same four tests in the same order, each of them what one call promises.
+-- Assumes nothing.
 use Rattle.format.specs.Faults.{endLimits}
 use borrow.Author.Needs.{needs}
 use Rattle.format.proofs.refusals.end_limits.Statement.{statement}

@@ -1,4 +1,4 @@
--- `format::refusals::end_names` meets its contract. Assumes nothing.
+-- `format::refusals::end_names` meets its contract: the definition unfolds to the same two comparisons, of the number that `number_at` promises. Assumes nothing.
 use Rattle.format.specs.Faults.{endNames}
 use borrow.Author.Needs.{needs}
 use Rattle.format.proofs.refusals.end_names.Statement.{statement}

@@ -1,4 +1,5 @@
--- `format::refusals::end_shape` meets its contract. Assumes nothing.
+-- `format::refusals::end_shape` meets its contract: the definition unfolds to the same comparison of the first byte and to five tests, each of them what one call
+-- promises; whether a field is used, the calls before have promised. Assumes nothing.
 use Rattle.format.specs.Faults.{endShape}
 use borrow.Author.Needs.{needs}
 use Rattle.format.proofs.refusals.end_shape.Statement.{statement}

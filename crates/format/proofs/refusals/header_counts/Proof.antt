@@ -1,4 +1,4 @@
--- `format::refusals::header_counts` meets its contract. Assumes nothing.
+-- `format::refusals::header_counts` meets its contract: the definition unfolds to the same two comparisons, of the counts that `number_at` promises. Assumes nothing.
 use Rattle.format.specs.Faults.{headerCounts}
 use borrow.Author.Needs.{needs}
 use Rattle.format.proofs.refusals.header_counts.Statement.{statement}

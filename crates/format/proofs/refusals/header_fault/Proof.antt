@@ -1,4 +1,5 @@
--- `format::refusals::header_fault` meets its contract. Assumes nothing.
+-- `format::refusals::header_fault` meets its contract: at each of the five ways out the tests before it are known, and they are the definition's: the length's by
+-- `lt-leb` and `le-leb`, the others by the calls' promises. Past the first way out the sheet holds the 24 bytes that the calls require. Assumes nothing.
 use borrow.Author.Tests.{lt-leb, le-leb}
 use mathlib.Core.Path.{sym, _∙_}
 use Rattle.format.specs.Faults.{headerFault}

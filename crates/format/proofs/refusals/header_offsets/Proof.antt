@@ -1,4 +1,5 @@
--- `format::refusals::header_offsets` meets its contract. Assumes nothing.
+-- `format::refusals::header_offsets` meets its contract: the definition unfolds to the same four comparisons, of the numbers that the calls promise. A count is below
+-- 2 ^ 16, so no product and no sum wraps. Assumes nothing.
 use Rattle.format.specs.Faults.{headerOffsets}
 use borrow.Author.Needs.{needs}
 use Rattle.format.proofs.refusals.header_offsets.Statement.{statement}

@@ -1,4 +1,4 @@
--- `format::refusals::header_zeros` meets its contract. Assumes nothing.
+-- `format::refusals::header_zeros` meets its contract: the definition unfolds to the same three comparisons, of the numbers that the calls promise. Assumes nothing.
 use Rattle.format.specs.Faults.{headerZeros}
 use borrow.Author.Needs.{needs}
 use Rattle.format.proofs.refusals.header_zeros.Statement.{statement}

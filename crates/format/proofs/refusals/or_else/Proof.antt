@@ -1,4 +1,4 @@
--- `format::refusals::or_else` meets its contract. Assumes nothing.
+-- `format::refusals::or_else` meets its contract: where a is 0 the definition computes to b, and where it is not, to a (`or-else-first`). Assumes nothing.
 use Rattle.format.proofs.RefusalLaws.{or-else-first}
 use borrow.Author.Needs.{needs}
 use Rattle.format.proofs.refusals.or_else.Statement.{statement}

@@ -1,4 +1,5 @@
--- `format::refusals::plane_shape` meets its contract. Assumes nothing.
+-- `format::refusals::plane_shape` meets its contract: `uses_plane` promises that the test is the definition's, so at each way out it is known which of its two cases
+-- the definition takes, and that case is what the call there promises. Assumes nothing.
 use mathlib.Core.Path.{sym, _∙_}
 use Rattle.format.specs.Faults.{planeShape}
 use borrow.Author.Needs.{needs}

@@ -1,4 +1,5 @@
--- `format::refusals::rel_fault` meets its contract. Assumes nothing.
+-- `format::refusals::rel_fault` meets its contract: at each of the four ways out the tests before it are known; the calls promise that they are the definition's, which
+-- by them computes to the same number. Assumes nothing.
 use mathlib.Core.Path.{sym, _∙_}
 use Rattle.format.specs.Faults.{relFault}
 use borrow.Author.Needs.{needs}

@@ -1,4 +1,5 @@
--- `format::refusals::rel_names` meets its contract. Assumes nothing.
+-- `format::refusals::rel_names` meets its contract: the definition joins the same tests in the same way: what the calls promise of the three ends, and of whether the
+-- third is used. Assumes nothing.
 use Rattle.format.specs.Faults.{relNames}
 use borrow.Author.Needs.{needs}
 use Rattle.format.proofs.refusals.rel_names.Statement.{statement}

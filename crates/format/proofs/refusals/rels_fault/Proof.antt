@@ -1,4 +1,6 @@
--- `format::refusals::rels_fault` meets its contract. Assumes nothing.
+-- `format::refusals::rels_fault` meets its contract. The invariant: at most k relations are passed, and the number held is the first fault among them; one more
+-- relation is one more step of the definition (`rels-more`), since m is the header's count. The measure is the relations to come; at the end none are, and the number
+-- is that of all k. Assumes nothing.
 use mathlib.Core.Path.{_≡_, refl, _∙_}
 use Prim.Native.Nat.{_≤_, _-_}
 use native.Mathlib.Omega.{arith}

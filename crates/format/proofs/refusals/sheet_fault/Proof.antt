@@ -1,4 +1,6 @@
--- `format::refusals::sheet_fault` meets its contract. Assumes nothing.
+-- `format::refusals::sheet_fault` meets its contract: a header that passes says how long the sheet is (`header-passes`), so that counts and records can be read, and
+-- the calls promise the numbers that the definition joins (`sheet-records`); the number of a header that does not pass is the whole sheet's (`sheet-stops`).
+-- Assumes nothing.
 use mathlib.Core.Path.{sym, _∙_}
 use native.Mathlib.Omega.{arith}
 use Rattle.format.proofs.RefusalLaws.{header-passes, sheet-records, sheet-stops}

@@ -1,4 +1,5 @@
--- `format::refusals::used_or_zero` meets its contract. Assumes nothing.
+-- `format::refusals::used_or_zero` meets its contract: at each way out it is known whether the bytes are used, and by that the definition computes to true or to the
+-- test that `zero_bytes` promises. Assumes nothing.
 use Rattle.format.specs.Faults.{usedOrZero}
 use borrow.Author.Needs.{needs}
 use Rattle.format.proofs.refusals.used_or_zero.Statement.{statement}

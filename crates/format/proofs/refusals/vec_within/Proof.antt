@@ -1,4 +1,5 @@
--- `format::refusals::vec_within` meets its contract. Assumes nothing.
+-- `format::refusals::vec_within` meets its contract: the definition unfolds to the tests of the three coordinates, each of them what one call promises of the double at
+-- its place. Assumes nothing.
 use Rattle.records.specs.Limits.{withinV}
 use borrow.Author.Needs.{needs}
 use Rattle.format.proofs.refusals.vec_within.Statement.{statement}

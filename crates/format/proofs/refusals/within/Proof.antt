@@ -1,4 +1,4 @@
--- `format::refusals::within` meets its contract. Assumes nothing.
+-- `format::refusals::within` meets its contract: the definition unfolds to the same comparison, of the magnitude that `abs` promises. Assumes nothing.
 use Rattle.records.specs.Limits.{within}
 use borrow.Author.Needs.{needs}
 use Rattle.format.proofs.refusals.within.Statement.{statement}

@@ -1,4 +1,5 @@
--- `format::refusals::zero_bytes` meets its contract. Assumes nothing.
+-- `format::refusals::zero_bytes` meets its contract. The invariant: at most n bytes are passed, and the flag held says whether all of them are 0; one more byte is one
+-- more step of the definition (`zero-bytes-more`). The measure is the bytes to come; at the end none are, and the flag is that of all n. Assumes nothing.
 use mathlib.Core.Path.{_≡_, refl, _∙_}
 use Prim.Native.Nat.{_≤_, _-_}
 use Rattle.records.specs.Record.{zeroBytes}

@@ -1,4 +1,5 @@
--- `records::record::body_at` meets its contract. Assumes nothing.
+-- `records::record::body_at` meets its contract: the definition unfolds to a record whose frame, centre and size are what the calls promise at their places, and whose
+-- flag is the same comparison of the first byte. Assumes nothing.
 use Rattle.records.specs.Record.{bodyAt}
 use borrow.Author.Needs.{needs}
 use Rattle.records.proofs.record.body_at.Statement.{statement}

@@ -1,4 +1,5 @@
--- `records::record::double_at` meets its contract. Assumes nothing.
+-- `records::record::double_at` meets its contract: the definition unfolds to the double of the eight bytes' number; the number that `u64_at` promises is put into what
+-- `double_of` promises of it. Assumes nothing.
 use Rattle.records.specs.Record.{doubleAt}
 use borrow.Author.Needs.{needs}
 use Rattle.records.proofs.record.double_at.Statement.{statement}

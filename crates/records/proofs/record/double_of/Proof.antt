@@ -1,4 +1,5 @@
--- `records::record::double_of` meets its contract. Assumes nothing.
+-- `records::record::double_of` meets its contract: one comparison of the pattern without its sign tells the NaNs. Above it the definition gives the NaN (`nan-bits`),
+-- as 0 / 0 does; else the pattern is no NaN's (`no-nan-bits`), so that `from_bits` gives the double. Assumes nothing.
 use lib.Ieee.{ofBits}
 use lib.Ieee.{div}
 use Rattle.records.proofs.RecordLaws.{no-nan-bits, nan-bits}

@@ -1,4 +1,5 @@
--- `records::record::end_at` meets its contract. Assumes nothing.
+-- `records::record::end_at` meets its contract: the definition unfolds to a record of four fields. What the calls promise of the bytes is put into what `place_of` and
+-- `prim_of` promise; the radius is a call's promise, the flag the same comparison of a byte. Assumes nothing.
 use Rattle.records.specs.Record.{endAt}
 use borrow.Author.Needs.{needs}
 use Rattle.records.proofs.record.end_at.Statement.{statement}

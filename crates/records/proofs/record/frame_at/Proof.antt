@@ -1,4 +1,4 @@
--- `records::record::frame_at` meets its contract. Assumes nothing.
+-- `records::record::frame_at` meets its contract: the definition is a record of four vectors, each of them what one call promises at its place. Assumes nothing.
 use borrow.Author.Needs.{needs}
 use Rattle.records.proofs.record.frame_at.Statement.{statement}
 use Rattle.records.proofs.record.frame_at.Tie as tie

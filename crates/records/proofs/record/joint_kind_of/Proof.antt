@@ -1,4 +1,5 @@
--- `records::record::joint_kind_of` meets its contract. Assumes nothing.
+-- `records::record::joint_kind_of` meets its contract: in every arm but the last the number is known, and with it the definition's table computes to the arm's kind; in
+-- the last arm the number is 5 or more, and from 5 on the table gives its last kind (`last-kind`). Assumes nothing.
 use Rattle.records.specs.Numbers.{byNumber}
 use Rattle.records.specs.Record.{jointKindAt}
 use native.Mathlib.Omega.{arith}

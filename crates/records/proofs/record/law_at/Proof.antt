@@ -1,4 +1,6 @@
--- `records::record::law_at` meets its contract. Assumes nothing.
+-- `records::record::law_at` meets its contract: in every arm but the last the law's number is known, and with it the definition's table computes to the arm's law,
+-- whose doubles, vector and end the calls promise and whose flag is the same comparison of a byte; in the last arm the number is 6 or more, and from 6 on the table
+-- gives its last law (`last-law`). Assumes nothing.
 use Prim.Native.Nat.{_≤_}
 use Rattle.records.specs.Numbers.{byNumber}
 use Rattle.records.specs.Record.{lawBy, byteAt}

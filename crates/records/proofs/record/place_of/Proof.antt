@@ -1,4 +1,5 @@
--- `records::record::place_of` meets its contract. Assumes nothing.
+-- `records::record::place_of` meets its contract: the definition's table by number tells only the ground from the last case, by the same test, whose outcome is known
+-- in each branch (`eq-eqb`, `ne-eqb`). Assumes nothing.
 use borrow.Author.Tests.{eq-eqb, ne-eqb}
 use Rattle.records.specs.Numbers.{byNumber}
 use Rattle.records.specs.Record.{bodyNumberAt}

@@ -1,4 +1,5 @@
--- `records::record::prim_of` meets its contract. Assumes nothing.
+-- `records::record::prim_of` meets its contract: in every arm but the last the number is known, and with it the definition's table computes to the arm's case; in the
+-- last arm the number is 3 or more, and from 3 on the table gives its last case (`last-prim`). Assumes nothing.
 use Rattle.records.specs.Numbers.{byNumber}
 use Rattle.records.specs.Record.{primAt}
 use native.Mathlib.Omega.{arith}

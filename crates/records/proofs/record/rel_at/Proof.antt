@@ -1,4 +1,4 @@
--- `records::record::rel_at` meets its contract. Assumes nothing.
+-- `records::record::rel_at` meets its contract: the definition unfolds to a record of the law and the two ends, each of them what one call promises. Assumes nothing.
 use Rattle.records.specs.Record.{relAt}
 use borrow.Author.Needs.{needs}
 use Rattle.records.proofs.record.rel_at.Statement.{statement}

@@ -1,4 +1,4 @@
--- `records::record::vec_at` meets its contract. Assumes nothing.
+-- `records::record::vec_at` meets its contract: the definition is a record of three doubles, each of them what one call promises at its place. Assumes nothing.
 use borrow.Author.Needs.{needs}
 use Rattle.records.proofs.record.vec_at.Statement.{statement}
 use Rattle.records.proofs.record.vec_at.Tie as tie

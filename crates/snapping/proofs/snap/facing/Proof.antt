@@ -1,4 +1,4 @@
--- `snapping::snap::facing` meets its contract. Assumes nothing.
+-- `snapping::snap::facing` meets its contract: in each branch the flag is known, and by that the definition is v, or the opposite that `neg` promises. Assumes nothing.
 use Rattle.relations.proofs.Values.{vec-is}
 use Rattle.snapping.proofs.snap.facing.Statement.{statement}
 use Rattle.snapping.proofs.snap.facing.Tie as tie

@@ -1,4 +1,5 @@
--- `snapping::snap::joint_target` meets its contract. Assumes nothing.
+-- `snapping::snap::joint_target` meets its contract: an arm tells the kind, so that the definition computes: to the direction that `facing` promises, and for a ball to
+-- none. Assumes nothing.
 use Rattle.snapping.specs.Snap.{jointTarget}
 use borrow.Author.Needs.{needs}
 use Rattle.relations.proofs.Values.{vec-is}

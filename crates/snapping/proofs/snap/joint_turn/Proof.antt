@@ -1,4 +1,5 @@
--- `snapping::snap::joint_turn` meets its contract. Assumes nothing.
+-- `snapping::snap::joint_turn` meets its contract: an arm tells the kind, so that the definition computes: for rigid and slider to the turning that `turn_to_angle`
+-- promises, for any other kind to r. Assumes nothing.
 use Rattle.snapping.specs.Snap.{jointTurn}
 use borrow.Author.Needs.{needs}
 use Rattle.relations.proofs.Values.{mat-is}

@@ -1,4 +1,5 @@
--- `snapping::snap::same_side` meets its contract. Assumes nothing.
+-- `snapping::snap::same_side` meets its contract: by what `dot` promises, the test is the definition's. In each branch its outcome is known, and by that the definition
+-- is da, or the opposite that `neg` promises. Assumes nothing.
 use Rattle.relations.proofs.Values.{vec-is}
 use Rattle.snapping.proofs.snap.same_side.Statement.{statement}
 use Rattle.snapping.proofs.snap.same_side.Tie as tie

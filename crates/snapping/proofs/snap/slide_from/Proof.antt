@@ -1,4 +1,5 @@
--- `snapping::snap::slide_from` meets its contract. Assumes nothing.
+-- `snapping::snap::slide_from` meets its contract: the definition is the same operations in the same order. A vector is known by its numbers (`vec-is`), so each call's
+-- promise is put into the next. Assumes nothing.
 use Rattle.relations.proofs.Values.{vec-is}
 use Rattle.snapping.proofs.snap.slide_from.Statement.{statement}
 use Rattle.snapping.proofs.snap.slide_from.Tie as tie

@@ -1,4 +1,5 @@
--- `snapping::snap::snap` meets its contract. Assumes nothing.
+-- `snapping::snap::snap` meets its contract: the definition unfolds to the turned motion, slid. The motion that `turned` promises is put into what `sliding` promises,
+-- and both into what `slid` promises (`same-slid`). Assumes nothing.
 use mathlib.Core.Path.{_≡_, _∙_}
 use lib.Ieee.{Float}
 use Rattle.vectors.specs.Vec.{Vec}

@@ -1,4 +1,5 @@
--- `snapping::snap::snap_dir` meets its contract. Assumes nothing.
+-- `snapping::snap::snap_dir` meets its contract: an arm tells the law, so that the definition computes: for a joint to its frame's Z, for any other law to what the
+-- primitive's `direction` promises. Assumes nothing.
 use Rattle.snapping.specs.Snap.{snapDir}
 use borrow.Author.Needs.{needs}
 use Rattle.snapping.proofs.snap.snap_dir.Statement.{statement}

@@ -1,4 +1,5 @@
--- `snapping::snap::snap_turn` meets its contract. Assumes nothing.
+-- `snapping::snap::snap_turn` meets its contract: an arm tells the law, so that the definition computes: for a joint to the turning that `joint_turn` promises, for any
+-- other law to r. Assumes nothing.
 use Rattle.snapping.specs.Snap.{snapTurn}
 use borrow.Author.Needs.{needs}
 use Rattle.relations.proofs.Values.{mat-is}

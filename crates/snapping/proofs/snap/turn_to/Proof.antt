@@ -1,4 +1,5 @@
--- `snapping::snap::turn_to` meets its contract. Assumes nothing.
+-- `snapping::snap::turn_to` meets its contract: an arm tells the direction, or that there is none, so that the definition computes: to the rotation that
+-- `rotation_between` promises, or to the identity. Assumes nothing.
 use Rattle.snapping.specs.Snap.{turnTo}
 use borrow.Author.Needs.{needs}
 use Rattle.relations.proofs.Values.{mat-is}

@@ -1,4 +1,5 @@
--- `snapping::snap::Motion::about` meets its contract. Assumes nothing.
+-- `snapping::snap::Motion::about` meets its contract: the definition unfolds to the same operations. A vector is known by its numbers (`vec-is`), so each call's
+-- promise is put into the next. Assumes nothing.
 use Rattle.snapping.specs.Snap.{about}
 use Rattle.relations.proofs.Values.{vec-is}
 use Rattle.snapping.proofs.snap.Motion.about.Statement.{statement}

@@ -1,4 +1,5 @@
--- `snapping::snap::Motion::inverse` meets its contract. Assumes nothing.
+-- `snapping::snap::Motion::inverse` meets its contract: the definition unfolds to the same operations. A matrix and a vector are known by their numbers (`mat-is`,
+-- `vec-is`), so each call's promise is put into the next. Assumes nothing.
 use Rattle.snapping.specs.Snap.{inverse}
 use Rattle.relations.proofs.Values.{mat-is, vec-is}
 use Rattle.snapping.proofs.snap.Motion.inverse.Statement.{statement}

@@ -1,4 +1,5 @@
--- `snapping::snap::Motion::joint_origin` meets its contract. Assumes nothing.
+-- `snapping::snap::Motion::joint_origin` meets its contract: a joint frame is known by its numbers (`joint-is`), so the origin of the one that `joint_at` promises is
+-- put into what `place` promises of it. Assumes nothing.
 use Rattle.relations.proofs.Values.{joint-is, vec-is}
 use Rattle.snapping.proofs.snap.Motion.joint_origin.Statement.{statement}
 use Rattle.snapping.proofs.snap.Motion.joint_origin.Tie as tie

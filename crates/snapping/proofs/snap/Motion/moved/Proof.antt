@@ -1,4 +1,5 @@
--- `snapping::snap::Motion::moved` meets its contract. Assumes nothing.
+-- `snapping::snap::Motion::moved` meets its contract: the definition unfolds to the product of the matrices and the place of q's t, each of them what one call
+-- promises. Assumes nothing.
 use Rattle.snapping.specs.Snap.{moved}
 use Rattle.relations.proofs.Values.{mat-is, vec-is}
 use Rattle.snapping.proofs.snap.Motion.moved.Statement.{statement}

@@ -1,4 +1,5 @@
--- `snapping::snap::Motion::place` meets its contract. Assumes nothing.
+-- `snapping::snap::Motion::place` meets its contract: the definition is the same two operations. A vector is known by its numbers (`vec-is`), so what `apply` promises
+-- is put into what `add` promises. Assumes nothing.
 use Rattle.relations.proofs.Values.{vec-is}
 use Rattle.snapping.proofs.snap.Motion.place.Statement.{statement}
 use Rattle.snapping.proofs.snap.Motion.place.Tie as tie

@@ -1,4 +1,5 @@
--- `snapping::snap::Motion::placed` meets its contract. Assumes nothing.
+-- `snapping::snap::Motion::placed` meets its contract: a pose is known by its numbers (`pose-is`), so the pose that `moved` promises is put into what the end's
+-- `placed` promises of it. Assumes nothing.
 use Rattle.relations.proofs.Values.{pose-is}
 use Rattle.snapping.proofs.snap.Motion.placed.Statement.{statement}
 use Rattle.snapping.proofs.snap.Motion.placed.Tie as tie

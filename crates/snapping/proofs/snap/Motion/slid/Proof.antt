@@ -1,4 +1,4 @@
--- `snapping::snap::Motion::slid` meets its contract. Assumes nothing.
+-- `snapping::snap::Motion::slid` meets its contract: the definition unfolds to the same matrix and to the sum that `add` promises. Assumes nothing.
 use Rattle.snapping.specs.Snap.{slid}
 use Rattle.relations.proofs.Values.{vec-is}
 use Rattle.snapping.proofs.snap.Motion.slid.Statement.{statement}
