@@ -1,4 +1,5 @@
--- `report::run::answer` meets its contract. Assumes nothing.
+-- `report::run::answer` meets its contract: a sheet without fault has a whole header (`sheet-passes`) and at most 64 bodies and 128 relations (`counted`), as
+-- `answer_text` asks. The counts read are the sheet's, and the text with them is the definition's (`put-counted`). Assumes nothing.
 use native.Mathlib.Omega.{arith}
 use lib.Dec.{eqb}
 use borrow.Author.Needs.{needs}

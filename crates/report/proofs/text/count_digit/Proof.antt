@@ -1,4 +1,5 @@
--- `report::text::count_digit` meets its contract. Assumes nothing.
+-- `report::text::count_digit` meets its contract: the definition makes the same three comparisons in the same order, and each return follows from their outcomes so
+-- far. Assumes nothing.
 use Rattle.report.specs.Report.{countDigit}
 use Rattle.report.proofs.text.count_digit.Statement.{statement}
 use Rattle.report.proofs.text.count_digit.Tie as tie

@@ -1,4 +1,5 @@
--- `report::text::put_bits` meets its contract. Assumes nothing.
+-- `report::text::put_bits` meets its contract: `put_digits` puts the sixteen hexadecimal digits of the number that `bits` gives, and that number is the double's bits
+-- (`put-digits-as`). Assumes nothing.
 use mathlib.Core.Path.{refl}
 use borrow.Author.Needs.{needs}
 use Rattle.report.proofs.TextLaws.{put-digits-as}

@@ -1,4 +1,5 @@
--- `report::text::put_converged` meets its contract. Assumes nothing.
+-- `report::text::put_converged` meets its contract: each of the two words is byte for byte the definition's line for its flag, and `put_word` promises that it is put.
+-- Assumes nothing.
 use borrow.Author.Needs.{needs}
 use Rattle.report.proofs.text.put_converged.Statement.{statement}
 use Rattle.report.proofs.text.put_converged.Tie as tie

@@ -1,4 +1,5 @@
--- `report::text::put_number` meets its contract. Assumes nothing.
+-- `report::text::put_number` meets its contract: each piece is put directly behind the last, so the three are one list (`put-then`, twice). The number has at most five
+-- digits (`decimal-length`), so the newline has room. Assumes nothing.
 use native.Mathlib.Omega.{arith}
 use borrow.Author.Needs.{needs}
 use Rattle.report.proofs.TextLaws.{decimal-length, put-then}

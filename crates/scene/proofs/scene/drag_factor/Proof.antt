@@ -1,4 +1,5 @@
--- `scene::scene::drag_factor` meets its contract. Assumes nothing.
+-- `scene::scene::drag_factor` meets its contract: no dragged body is the definition's first case; for a dragged one the test of numbers is the definition's `eqb`, in
+-- both outcomes. Assumes nothing.
 use borrow.Author.Tests.{eq-eqb, ne-eqb}
 use borrow.Author.Needs.{needs}
 use Rattle.scene.specs.Solve.{dragFactor}

@@ -1,4 +1,5 @@
--- `scene::scene::end_pose` meets its contract. Assumes nothing.
+-- `scene::scene::end_pose` meets its contract: a number below m names an entry of the poses, which is the pose read at its place (`pose-of`); a number from m on is
+-- past the list, where the definition gives the ground's pose (`pose-past`). Assumes nothing.
 use mathlib.Core.Path.{_∙_}
 use borrow.Author.Needs.{needs}
 use Rattle.scene.proofs.SceneLaws.{pose-of, pose-past}

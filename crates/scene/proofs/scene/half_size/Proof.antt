@@ -1,4 +1,4 @@
--- `scene::scene::half_size` meets its contract. Assumes nothing.
+-- `scene::scene::half_size` meets its contract: what `max` promises is the definition unfolded. Assumes nothing.
 use borrow.Author.Needs.{needs}
 use Rattle.scene.specs.Solve.{halfSize}
 use Rattle.scene.proofs.scene.half_size.Statement.{statement}

@@ -1,4 +1,4 @@
--- `scene::scene::inverse_weight` meets its contract. Assumes nothing.
+-- `scene::scene::inverse_weight` meets its contract: with what `max` promises put in, the quotient is the definition's. Assumes nothing.
 use borrow.Author.Needs.{needs}
 use Rattle.scene.proofs.scene.inverse_weight.Statement.{statement}
 use Rattle.scene.proofs.scene.inverse_weight.Tie as tie

@@ -1,4 +1,4 @@
--- `scene::scene::is_body` meets its contract. Assumes nothing.
+-- `scene::scene::is_body` meets its contract: the definition has the same two cases, by the number that the place stands for. Assumes nothing.
 use borrow.Author.Needs.{needs}
 use Rattle.scene.proofs.scene.is_body.Statement.{statement}
 use Rattle.scene.proofs.scene.is_body.Tie as tie

@@ -1,4 +1,5 @@
--- `scene::scene::moved_pose` meets its contract. Assumes nothing.
+-- `scene::scene::moved_pose` meets its contract: the promise of each call is put into that of the next, and the definition unfolds to the same operations in the same
+-- order. Assumes nothing.
 use borrow.Author.Needs.{needs}
 use Rattle.scene.specs.Solve.{movedPose}
 use Rattle.relations.proofs.Values.{vec-is, mat-is, pose-is}

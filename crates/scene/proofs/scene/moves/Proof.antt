@@ -1,4 +1,5 @@
--- `scene::scene::moves` meets its contract. Assumes nothing.
+-- `scene::scene::moves` meets its contract: the body read is the definition's, so its flag `fixed` is the one that the definition tests; where it is false, `named`
+-- promises what the definition is then. Assumes nothing.
 use mathlib.Core.Path.{sym, ap, _∙_}
 use native.Mathlib.Omega.{arith}
 use Rattle.scene.specs.Solve.{moves}

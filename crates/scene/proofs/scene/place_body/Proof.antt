@@ -1,4 +1,5 @@
--- `scene::scene::place_body` meets its contract. Assumes nothing.
+-- `scene::scene::place_body` meets its contract: the definition tests the same flag, and its two cases are the two returns. The unknowns so far are at most 6 * i with
+-- i below 64, so their number fits the index's sixteen bits. Assumes nothing.
 use borrow.Author.Needs.{needs}
 use Rattle.scene.proofs.scene.place_body.Statement.{statement}
 use Rattle.scene.proofs.scene.place_body.Tie as tie

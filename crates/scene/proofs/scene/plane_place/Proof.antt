@@ -1,4 +1,5 @@
--- `scene::scene::plane_place` meets its contract. Assumes nothing.
+-- `scene::scene::plane_place` meets its contract: law by law, the definition gives the body of symmetry's plane, and none for each other law, as the code gives the
+-- ground. Assumes nothing.
 use borrow.Author.Needs.{needs}
 use Rattle.scene.specs.Solve.{planeBody}
 use Rattle.scene.proofs.scene.plane_place.Statement.{statement}

@@ -1,4 +1,5 @@
--- `scene::scene::pose_at` meets its contract. Assumes nothing.
+-- `scene::scene::pose_at` meets its contract: each of the four vectors is what `vec_in` promises of its three doubles, and the definition is made of the same four.
+-- Assumes nothing.
 use borrow.Author.Needs.{needs}
 use Rattle.relations.proofs.Values.{vec-is}
 use Rattle.scene.proofs.scene.pose_at.Statement.{statement}

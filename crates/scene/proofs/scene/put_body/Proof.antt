@@ -1,4 +1,5 @@
--- `scene::scene::put_body` meets its contract. Assumes nothing.
+-- `scene::scene::put_body` meets its contract: a body that has unknowns has its six among the scene's (`laid-first`), so `body_pose` may read them. The body read from
+-- the sheet is the definition's, and with it the pose that `put_pose` puts. Assumes nothing.
 use mathlib.Core.Path.{refl, ap, subst, _∙_}
 use Prim.Native.Nat.{_-_}
 use native.Mathlib.Omega.{arith}

@@ -1,4 +1,5 @@
--- `scene::scene::put_relation` meets its contract. Assumes nothing.
+-- `scene::scene::put_relation` meets its contract: the rows are those of the definition, packed. They are at most seven (`rel-small`), so packing loses none, and what
+-- `put_rows` puts is the list itself (`packed-next`). Assumes nothing.
 use mathlib.Core.Path.{ap, _∙_}
 use Prim.Native.Nat.{_-_}
 use native.Mathlib.Omega.{arith}

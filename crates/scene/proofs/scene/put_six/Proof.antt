@@ -1,4 +1,5 @@
--- `scene::scene::put_six` meets its contract. Assumes nothing.
+-- `scene::scene::put_six` meets its contract: the second three doubles are put directly behind the first three, so they are one list of six (`put-then`), and the two
+-- numbers in it are the definition's (`six-are`). Assumes nothing.
 use mathlib.Core.Path.{refl}
 use borrow.Author.Needs.{needs}
 use Rattle.scene.proofs.SceneLaws.{put-then, six-are}

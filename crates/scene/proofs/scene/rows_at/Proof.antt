@@ -1,4 +1,5 @@
--- `scene::scene::rows_at` meets its contract. Assumes nothing.
+-- `scene::scene::rows_at` meets its contract: the poses read from p on are those that were written there, so the rows at them are the rows at the unknowns. Neither
+-- call changes a place below p outside the rows (`rows-at-is`). Assumes nothing.
 use mathlib.Core.Path.{_∙_}
 use Prim.Native.Nat.{_-_}
 use native.Mathlib.Omega.{arith}

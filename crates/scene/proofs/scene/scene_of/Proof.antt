@@ -1,4 +1,5 @@
--- `scene::scene::scene_of` meets its contract. Assumes nothing.
+-- `scene::scene::scene_of` meets its contract: the counts and places are the arguments, the unknowns and the index are what `layout` promises, and the rows what
+-- `count_rows` promises for any poses (`scene-made`). Assumes nothing.
 use native.Mathlib.Omega.{arith}
 use Rattle.scene.proofs.LayoutLaws.{scene-made}
 use Rattle.scene.proofs.scene.scene_of.Statement.{statement}

@@ -1,4 +1,5 @@
--- `sheet::calls::center_in` meets its contract. Assumes nothing.
+-- `sheet::calls::center_in` meets its contract: the count read is the sheet's. A number below it names a body, whose record stands within the sheet and has the centre
+-- (`center-there`); for one from it on (`center-missing`), and for the ground, the definition gives 0. Assumes nothing.
 use native.Mathlib.Omega.{arith}
 use Rattle.sheet.specs.Calls.{centerIn}
 use Rattle.sheet.proofs.CallLaws.{center-missing, center-there}

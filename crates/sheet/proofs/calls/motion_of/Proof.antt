@@ -1,4 +1,5 @@
--- `sheet::calls::motion_of` meets its contract. Assumes nothing.
+-- `sheet::calls::motion_of` meets its contract: where the tests pass, all bodies stand within the sheet (`reading-passes`), as the reading of poses and centre asks.
+-- Relation, poses and centre put into what `snap` promises are the definition (`motion-is`). Assumes nothing.
 use native.Mathlib.Omega.{arith}
 use Rattle.sheet.proofs.CallLaws.{motion-is, reading-passes}
 use borrow.Author.Needs.{needs}

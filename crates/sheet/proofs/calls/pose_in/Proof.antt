@@ -1,4 +1,5 @@
--- `sheet::calls::pose_in` meets its contract. Assumes nothing.
+-- `sheet::calls::pose_in` meets its contract: the count read is the sheet's. A number below it names a body, whose record stands within the sheet and has the frame
+-- (`pose-there`); for one from it on (`pose-missing`), and for the ground, the definition gives the ground's pose. Assumes nothing.
 use native.Mathlib.Omega.{arith}
 use Rattle.sheet.specs.Calls.{poseIn}
 use Rattle.sheet.proofs.CallLaws.{pose-missing, pose-there}

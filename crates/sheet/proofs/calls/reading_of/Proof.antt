@@ -1,4 +1,5 @@
--- `sheet::calls::reading_of` meets its contract. Assumes nothing.
+-- `sheet::calls::reading_of` meets its contract: where the tests pass, all bodies stand within the sheet (`reading-passes`), as the reading of poses asks. Relation and
+-- poses put into what `joint_reading` promises are the definition (`reading-is`). Assumes nothing.
 use native.Mathlib.Omega.{arith}
 use Rattle.sheet.proofs.CallLaws.{reading-is, reading-passes}
 use borrow.Author.Needs.{needs}

@@ -1,4 +1,5 @@
--- `sheet::calls::relation_fault` meets its contract. Assumes nothing.
+-- `sheet::calls::relation_fault` meets its contract: the definition is the sheet's number, or else the relation's (`reading-parts`). A number that is not 0 is the
+-- whole's (`first`); after 0 it is 0 or 13 (`later`), by whether the relation is below the count read. Assumes nothing.
 use mathlib.Core.Path.{sym, _∙_}
 use native.Mathlib.Omega.{arith}
 use Rattle.format.proofs.RefusalLaws.{first, later, sheet-passes}

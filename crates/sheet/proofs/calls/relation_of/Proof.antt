@@ -1,4 +1,5 @@
--- `sheet::calls::relation_of` meets its contract. Assumes nothing.
+-- `sheet::calls::relation_of` meets its contract: where the tests pass, the sheet is as long as its header says and has this relation (`reading-passes`), so the record
+-- stands within it. With the count of bodies that is read, its place is the definition's. Assumes nothing.
 use native.Mathlib.Omega.{arith}
 use Rattle.sheet.proofs.CallLaws.{reading-passes}
 use borrow.Author.Needs.{needs}

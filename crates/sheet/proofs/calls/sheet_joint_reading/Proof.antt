@@ -1,4 +1,5 @@
--- `sheet::calls::sheet_joint_reading` meets its contract. Assumes nothing.
+-- `sheet::calls::sheet_joint_reading` meets its contract: the number is that of `relation_fault`. Where it is 0 the two places hold the reading (`reading-done`), else
+-- they are as they were (`reading-kept`). Assumes nothing.
 use mathlib.Core.Path.{sym, _∙_}
 use Rattle.sheet.proofs.CallLaws.{reading-done, reading-kept}
 use borrow.Author.Needs.{needs}

@@ -1,4 +1,5 @@
--- `sheet::calls::sheet_judge` meets its contract. Assumes nothing.
+-- `sheet::calls::sheet_judge` meets its contract: the definition is the number of `relation_fault`, or else that of judging (`judge-parts`). A number that is not 0 is
+-- the whole's (`first`); after 0 the whole's is that of `judge` on the relation read (`later`). Assumes nothing.
 use mathlib.Core.Path.{ap, sym, _∙_}
 use Rattle.judging.specs.Judge.{judge}
 use Rattle.format.proofs.RefusalLaws.{first, later}

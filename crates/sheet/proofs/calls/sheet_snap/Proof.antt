@@ -1,4 +1,5 @@
--- `sheet::calls::sheet_snap` meets its contract. Assumes nothing.
+-- `sheet::calls::sheet_snap` meets its contract: the definition's number is that of `relation_fault`, or else 10 where fewer than twelve doubles are lent
+-- (`snap-parts`). On 0 the slice holds the motion before its own rest (`motion-done`), else it is as it was (`motion-kept`). Assumes nothing.
 use mathlib.Core.Path.{sym, _∙_}
 use native.Mathlib.Omega.{arith}
 use Rattle.sheet.proofs.CallLaws.{fewer-lent, motion-done, motion-kept, snap-parts, twelve-lent}

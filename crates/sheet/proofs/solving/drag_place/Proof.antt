@@ -1,4 +1,5 @@
--- `sheet::solving::drag_place` meets its contract. Assumes nothing.
+-- `sheet::solving::drag_place` meets its contract: by the same test the definition gives none for 65535 (`drag-ground`), and for each other number the body of that
+-- number (`drag-body`). Assumes nothing.
 use borrow.Author.Needs.{needs}
 use Rattle.sheet.proofs.SolvingLaws.{drag-ground, drag-body}
 use Rattle.sheet.proofs.solving.drag_place.Statement.{statement}
