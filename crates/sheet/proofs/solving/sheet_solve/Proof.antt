@@ -1,4 +1,6 @@
--- `sheet::solving::sheet_solve` meets its contract, by the laws of SolvingLaws. Assumes nothing.
+-- `sheet::solving::sheet_solve` answers as `SolveAnswer` says: what `solve_fault` refuses leaves everything as it was (`refused`); what it lets through is
+-- long enough for `solve` (`asked`), whose answer for the scene read and the body dragged is the sheet's (`answered`). By the laws of SolvingLaws. Assumes
+-- nothing.
 use mathlib.Core.Path.{sym, _∙_}
 use borrow.Author.Needs.{needs}
 use Rattle.relations.specs.Model.{bodyNumber}
@@ -6,17 +8,28 @@ use Rattle.sheet.proofs.SolvingLaws.{accepted, answered, asked, refused
 use Rattle.sheet.proofs.solving.sheet_solve.Statement.{statement}
 use Rattle.sheet.proofs.solving.sheet_solve.Tie as tie
 
+-- what is lent, at entry
+abbrev entry : tie.After-solve-fault → tie.Start
+entry c = c .before .before .before .before .before .before
+
 solve-fault-requires : tie.Need-solve-fault-requires
 solve-fault-requires c κs = search needs
 
 scene-in-requires : tie.Need-scene-in-requires
-scene-in-requires c κs = accepted _ _ _ _ _ _ (sym (c .before .solve-fault .ensures) ∙ c .if1 .taken) .sheet
+scene-in-requires c κs =
+    let tested = c .before in
+    accepted _ _ _ _ _ _ (sym (tested .solve-fault .ensures) ∙ c .if1 .taken) .sheet
 
 drag-place-requires : tie.Need-drag-place-requires
 drag-place-requires c κs = search needs
 
 solve-requires : tie.Need-solve-requires
-solve-requires c κs = asked _ _ (c .before .before .before .before .before .scene-in .ensures) _ _ _ _ _ _ (c .before .before .before .before .before .before .before .solve-fault .ensures) (c .before .before .before .before .before .before .if1 .taken)
+solve-requires c κs =
+    let drag = c .before .before .before .before in
+    let read = drag .before in
+    let passed = read .before in
+    let tested = passed .before in
+    asked _ _ (read .scene-in .ensures) _ _ _ _ _ _ (tested .solve-fault .ensures) (passed .if1 .taken)
 
 flag-requires : tie.Need-flag-requires
 flag-requires c κs = search needs
@@ -35,12 +48,23 @@ same-length-4 c = search needs
 
 returns : tie.Need-returns
 returns c =
-    let g = c .before .before .before .before .before .before .before .before .before .before .before .before .before .before .before .before .before .before .before .before .before .before .before .args in
-    answered (g .sheet .now) _ _ _ _ _ _ _ _ _ _ _ _ _ (bodyNumber (c .before .before .before .before .before .before .before .before .before .before .before .before .before .before .drag-place .result)) _ (c .before .before .before .before .before .before .before .before .before .before .before .before .before .before .before .before .before .solve-fault .ensures) (c .before .before .before .before .before .before .before .before .before .before .before .before .before .before .before .before .if1 .taken)
-    (c .before .before .before .before .before .before .before .before .before .before .before .before .before .before .before .scene-in .ensures) (c .before .before .before .before .before .before .before .before .before .before .before .before .before .before .drag-place .ensures) (search needs) (c .before .before .before .before .before .before .before .before .before .solve .ensures) (c .flag .ensures)
+    let solved = c .before .before .before .before .before .before .before .before .before in
+    let drag = solved .before .before .before .before .before in
+    let read = drag .before in
+    let passed = read .before in
+    let tested = passed .before in
+    let g = entry tested .args in
+    answered (g .sheet .now) _ _ _ _ _ _ _ _ _ _ _ _ _ (bodyNumber (drag .drag-place .result)) _ (tested .solve-fault .ensures) (passed .if1 .taken)
+    (read .scene-in .ensures)
+    (drag .drag-place .ensures)
+    (search needs)
+    (solved .solve .ensures)
+    (c .flag .ensures)
 
 returns-2 : tie.Need-returns-2
-returns-2 c = refused (c .before .before .before .before .before .before .before .args .sheet .now) _ _ _ _ _ _ _ (c .before .solve-fault .ensures) (c .if1 .left)
+returns-2 c =
+    let tested = c .before in
+    refused (entry tested .args .sheet .now) _ _ _ _ _ _ _ (tested .solve-fault .ensures) (c .if1 .left)
 
 pub sheet-solve-spec : {M : Type 1} → statement M
 sheet-solve-spec =
