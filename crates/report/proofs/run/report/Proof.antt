@@ -1,19 +1,71 @@
--- `report::run::report` meets its contract, by the laws of RunLaws. Assumes nothing.
-use mathlib.Core.Path.{_∙_}
+-- `report::run::report` puts `reportOf` of the sheet: with the lengths lent, the numbers of `sheet_solve` and `sheet_dof` are those of the definition
+-- (`first-number`, `second-number`). The first that is not 0 is told as a refusal; where both are 0, the answers are printed. By the laws of RunLaws.
+-- Assumes nothing.
+use mathlib.Core.Path.{_≡_, _∙_}
+use Prim.Native.Nat.{_≤_}
 use native.Mathlib.Omega.{arith}
 use borrow.Author.Needs.{needs}
+use lib.ListN.{length}
+use Rattle.refusals.specs.Refusals.{solveFault, dofFault}
 use Rattle.report.proofs.RunLaws.{answered, dof-number, dof-small, first-refused, free-small, put-as, second-refused, sheet-passes, solve-number, solve-small}
 use Rattle.report.proofs.run.report.Statement.{statement}
 use Rattle.report.proofs.run.report.Tie as tie
+
+-- ---- the lengths lent
+
+scratch-lent : (c : tie.Start) → length (c .args .scratch .now) ≡ 8192
+scratch-lent c = c .pre .0
+
+poses-lent : (c : tie.Start) → length (c .args .poses .now) ≡ 768
+poses-lent c = c .pre .1 .0
+
+frames-lent : (c : tie.Start) → length (c .args .frames .now) ≡ 768
+frames-lent c = c .pre .1 .1 .0
+
+errors-lent : (c : tie.Start) → length (c .args .errors .now) ≡ 128
+errors-lent c = c .pre .1 .1 .1 .0
+
+freedoms-lent : (c : tie.Start) → length (c .args .freedoms .now) ≡ 1856
+freedoms-lent c = c .pre .1 .1 .1 .1 .0
+
+out-lent : (c : tie.Start) → 8192 ≤ length (c .args .out .now)
+out-lent c = c .pre .1 .1 .1 .1 .1
+
+-- ---- the two calls: back to the start, from a branch to the call whose number it tests, and from the second call to the branch that leads there
+
+abbrev entry : tie.After-sheet-solve → tie.Start
+entry c = c .before .before .before .before .before .before .before .before .before .before .before .before .before
+
+abbrev solved : tie.After-slice-known10 → tie.After-sheet-solve
+solved c = c .before .before .before .before .before .before .before .before
+
+abbrev accepted : tie.After-sheet-dof → tie.Else1
+accepted c = c .before .before .before .before
+
+abbrev counted : tie.After-slice-known13 → tie.After-sheet-dof
+counted c = c .before .before .before .before
+
+first-number : (c : tie.After-sheet-solve) → c .sheet-solve .result ≡ solveFault (entry c .args .sheet .now) 65535 8192 768 768 128
+first-number c =
+    let o = entry c in
+    solve-number _ _ _ _ _ _ (scratch-lent o) (poses-lent o) (frames-lent o) (errors-lent o) (c .sheet-solve .ensures .number)
+
+second-number : (c : tie.After-sheet-dof) → c .sheet-dof .result ≡ dofFault (entry (solved (accepted c .before)) .args .sheet .now) 8192 1856
+second-number c =
+    let solve = solved (accepted c .before) in
+    let o = entry solve in
+    dof-number _ _ _ _ (solve .sheet-solve .ensures .scratch-size ∙ scratch-lent o) (freedoms-lent o) (c .sheet-dof .ensures .number)
+
+-- ---- the needs
 
 sheet-solve-requires : tie.Need-sheet-solve-requires
 sheet-solve-requires c κs = search needs
 
 refused-text-requires : tie.Need-refused-text-requires
 refused-text-requires c κs =
-    let v = c .before .before .before .before .before .before .before .before .before .before in
-    let f = v .before .before .before .before .before .before .before .before .before .before .before .before .before .pre in
-    (solve-small _ _ _ _ _ _ _ (v .sheet-solve .ensures .number), f .1 .1 .1 .1 .1)
+    let refused = c .before in
+    let solve = solved (refused .before) in
+    (solve-small _ _ _ _ _ _ _ (solve .sheet-solve .ensures .number), out-lent (entry solve))
 
 same-length : tie.Need-same-length
 same-length c = search needs
@@ -32,18 +84,20 @@ same-length-5 c = search needs
 
 returns : tie.Need-returns
 returns c =
-    let v = c .before .before .before .before .before .before .before .before .before .before .before .before .before in
-    let f = v .before .before .before .before .before .before .before .before .before .before .before .before .before .pre in
-    put-as _ _ _ _ _ _ (first-refused _ _ (solve-number _ _ _ _ _ _ (f .0) (f .1 .0) (f .1 .1 .0) (f .1 .1 .1 .0) (v .sheet-solve .ensures .number)) (c .before .before .before .before .if1 .taken)) (c .before .before .refused-text .ensures)
+    let told = c .before .before in
+    let refused = told .before .before in
+    let solve = solved (refused .before) in
+    put-as _ _ _ _ _ _ (first-refused _ _ (first-number solve) (refused .if1 .taken)) (told .refused-text .ensures)
 
 sheet-dof-requires : tie.Need-sheet-dof-requires
 sheet-dof-requires c κs = search needs
 
 refused-text-requires-2 : tie.Need-refused-text-requires-2
 refused-text-requires-2 c κs =
-    let w = c .before .before .before .before .before .before in
-    let f = w .before .before .before .before .before .before .before .before .before .before .before .before .before .before .before .before .before .before .before .before .before .before .before .before .before .before .pre in
-    (dof-small _ _ _ _ (w .sheet-dof .ensures .number), f .1 .1 .1 .1 .1)
+    let refused = c .before in
+    let dof = counted (refused .before) in
+    let solve = solved (accepted dof .before) in
+    (dof-small _ _ _ _ (dof .sheet-dof .ensures .number), out-lent (entry solve))
 
 same-length-6 : tie.Need-same-length-6
 same-length-6 c = search needs
@@ -65,19 +119,26 @@ same-length-11 c = search needs
 
 returns-2 : tie.Need-returns-2
 returns-2 c =
-    let w = c .before .before .before .before .before .before .before .before .before in
-    let v = w .before .before .before .before .before .before .before .before .before .before .before .before .before in
-    let f = v .before .before .before .before .before .before .before .before .before .before .before .before .before .pre in
-    let x = v .sheet-solve .ensures in
-    put-as _ _ _ _ _ _ (second-refused _ _ _ (solve-number _ _ _ _ _ _ (f .0) (f .1 .0) (f .1 .1 .0) (f .1 .1 .1 .0) (x .number)) (w .before .before .before .before .if1 .left) (dof-number _ _ _ _ (x .scratch-size ∙ f .0) (f .1 .1 .1 .1 .0) (w .sheet-dof .ensures .number)) (c .before .before .before .before .if2 .taken)) (c .before .before .refused-text2 .ensures)
+    let told = c .before .before in
+    let refused = told .before .before in
+    let dof = counted (refused .before) in
+    let first = accepted dof in
+    let solve = solved (first .before) in
+    put-as _ _ _ _ _ _ (second-refused _ _ _ (first-number solve) (first .if1 .left) (second-number dof) (refused .if2 .taken)) (told .refused-text2 .ensures)
 
 answer-requires : tie.Need-answer-requires
 answer-requires c κs =
-    let w = c .before .before .before .before .before .before .before .before in
-    let f = w .before .before .before .before .before .before .before .before .before .before .before .before .before .before .before .before .before .before .before .before .before .before .before .before .before .before .pre in
-    let y = w .sheet-dof .ensures in
-    let z = c .before .before .before .if2 .left in
-    (sheet-passes _ _ _ _ _ _ _ _ y z, (omega (arith, c .before .before .before .before .before .before .before .before .before .before .before .before .before .before .errors .given, f .1 .1 .1 .0), (free-small _ _ _ _ _ _ _ _ y z, (omega (arith, c .before .before .before .before .before .freedoms .given, f .1 .1 .1 .1 .0), f .1 .1 .1 .1 .1))))
+    let second = c .before .before .before in
+    let freedoms = second .before .before in
+    let dof = counted (second .before) in
+    let first = accepted dof in
+    let errors = first .before .before in
+    let o = entry (solved (first .before)) in
+    let y = dof .sheet-dof .ensures in
+    let z = second .if2 .left in
+    let passes = sheet-passes _ _ _ _ _ _ _ _ y z in
+    let small = free-small _ _ _ _ _ _ _ _ y z in
+    (passes, (omega (arith, errors .errors .given, errors-lent o), (small, (omega (arith, freedoms .freedoms .given, freedoms-lent o), out-lent o))))
 
 same-length-12 : tie.Need-same-length-12
 same-length-12 c = search needs
@@ -99,15 +160,19 @@ same-length-17 c = search needs
 
 returns-3 : tie.Need-returns-3
 returns-3 c =
-    let a = c .before .before in
-    let w = a .before .before .before .before .before .before .before .before .before in
-    let v = w .before .before .before .before .before .before .before .before .before .before .before .before .before in
-    let f = v .before .before .before .before .before .before .before .before .before .before .before .before .before .pre in
-    let x = v .sheet-solve .ensures in
-    let y = w .sheet-dof .ensures in
-    put-as _ _ _ _ _ _ (answered _ _ _ _ _ _ _ _ _ _ _ _ x (w .before .before .before .before .if1 .left) _ _ _ _ _ _ _ y (a .before .before .before .before .if2 .left)
-    (solve-number _ _ _ _ _ _ (f .0) (f .1 .0) (f .1 .1 .0) (f .1 .1 .1 .0) (x .number)) (dof-number _ _ _ _ (x .scratch-size ∙ f .0) (f .1 .1 .1 .1 .0) (y .number)) (f .1 .1 .1 .0)
-    (omega arith) (omega arith)) (a .answer .ensures)
+    let told = c .before .before in
+    let second = told .before .before .before .before in
+    let dof = counted (second .before) in
+    let first = accepted dof in
+    let solve = solved (first .before) in
+    let x = solve .sheet-solve .ensures in
+    let y = dof .sheet-dof .ensures in
+    put-as _ _ _ _ _ _
+    (answered _ _ _ _ _ _ _ _ _ _ _ _ x (first .if1 .left) _ _ _ _ _ _ _ y (second .if2 .left) (first-number solve) (second-number dof)
+    (errors-lent (entry solve))
+    (omega arith)
+    (omega arith))
+    (told .answer .ensures)
 
 pub report-spec : {M : Type 1} → statement M
 report-spec =

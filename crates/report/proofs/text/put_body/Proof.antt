@@ -1,9 +1,13 @@
--- `report::text::put_body` meets its contract. Assumes nothing.
+-- `report::text::put_body` puts `bodyLine`, piece by piece: the word, i, and the five bytes of both counts (`put-then`, `put-counts`). As i takes at most
+-- five bytes, 15 bytes are room enough. Assumes nothing.
 use native.Mathlib.Omega.{arith}
 use borrow.Author.Needs.{needs}
 use Rattle.report.proofs.TextLaws.{decimal-length, put-then, put-counts}
 use Rattle.report.proofs.text.put_body.Statement.{statement}
 use Rattle.report.proofs.text.put_body.Tie as tie
+
+abbrev entry : tie.After-put-word → tie.Start
+entry c = c .before .before .before .before .before .before
 
 count-digit-requires : tie.Need-count-digit-requires
 count-digit-requires c κs = search needs
@@ -24,16 +28,25 @@ slice-aggregate-put-word-2 : tie.Need-slice-aggregate-put-word-2
 slice-aggregate-put-word-2 c = search needs
 
 put-word-requires-2 : tie.Need-put-word-requires-2
-put-word-requires-2 c κs = let few = decimal-length (c .before .before .before .before .before .before .before .before .before .before .before .before .before .before .args .i) (omega arith) in omega arith
+put-word-requires-2 c κs =
+    let number = c .before .before .before .before in
+    let word = number .before .before .before .before in
+    let few = decimal-length (entry word .args .i) (entry word .pre .0) in
+    omega arith
 
 same-length : tie.Need-same-length
 same-length c = search needs
 
 returns : tie.Need-returns
 returns c =
-    put-then _ _ _ _ _ _ _ _ (c .before .before .before .before .before .before .before .before .before .before .before .put-word .ensures)
-    (put-then _ _ _ _ _ _ _ _ (c .before .before .before .before .before .before .before .put-decimal .ensures)
-    (put-counts _ _ _ _ _ _ _ _ (c .before .before .before .before .before .before .before .before .before .before .before .before .before .before .before .count-digit .ensures) (c .before .before .before .before .before .before .before .before .before .before .before .before .before .before .count-digit2 .ensures) (c .before .before .put-word2 .ensures)))
+    let counts = c .before .before in
+    let number = counts .before .before .before .before .before in
+    let word = number .before .before .before .before in
+    let turns = word .before .before .before in
+    let slides = turns .before in
+    put-then _ _ _ _ _ _ _ _ (word .put-word .ensures)
+    (put-then _ _ _ _ _ _ _ _ (number .put-decimal .ensures)
+    (put-counts _ _ _ _ _ _ _ _ (slides .count-digit .ensures) (turns .count-digit2 .ensures) (counts .put-word2 .ensures)))
 
 pub put-body-spec : {M : Type 1} → statement M
 put-body-spec =
