@@ -26,7 +26,7 @@ use Rattle.relations.specs.Geometry.{Geo, plane, line, point, circle, Pose, pos
 use Rattle.relations.specs.Model.{End, Law, mate, flush, angle, insert, tangent, symmetry, joint}
 use Rattle.relations.specs.Rows.{matePrim, mateRows, flushRows, insertRows, planeGap, planeTangentRows, symmetryRows, formulaRows, isPlane, tangentRows, residual, ground}
 use Rattle.scene.specs.Solve.{isBody, planeBody, names, endPose}
-use Rattle.records.specs.Limits.{NEAR-ONE, THOUSAND, within, withinV}
+use Rattle.records.specs.Limits.{UNIT-LIMIT, THOUSAND, within, withinV}
 use Rattle.closeness.specs.RowBound.{POSITION-LIMIT, TEN-MILLION, smallPose, smallGeo, smallEnd, smallLaw, smallRel, exactLaw, unroundedRows, unroundedError, RowBound, ErrorBound}
 
 -- ---- from tests to sizes
@@ -50,7 +50,7 @@ up-to (inf s) p x t = absurd p
 up-to (fin true n d) p x t = absurd p
 up-to (fin false n d) p x t = let h = lt-div-mul-add {a = n * up d * S} {b = down d} (down-pos d) in small-of-le x n d (n * up d * S / down d + 1) t (omega arith)
 
-unit-positive : T (positive NEAR-ONE)
+unit-positive : T (positive UNIT-LIMIT)
 unfolding ofBits
 unit-positive = tt
 
@@ -70,12 +70,12 @@ vector-parts limit v t =
     let r = and-r (within limit (v .x)) _ t in
     (and-l (within limit (v .x)) _ t, and-l (within limit (v .y)) _ r, and-r (within limit (v .y)) _ r)
 
-pose-parts : (q : Pose Float) → T (smallPose q) → T (withinV NEAR-ONE (q .r .r0)) × T (withinV NEAR-ONE (q .r .r1)) × T (withinV NEAR-ONE (q .r .r2)) × T (withinV POSITION-LIMIT (q .t))
+pose-parts : (q : Pose Float) → T (smallPose q) → T (withinV UNIT-LIMIT (q .r .r0)) × T (withinV UNIT-LIMIT (q .r .r1)) × T (withinV UNIT-LIMIT (q .r .r2)) × T (withinV POSITION-LIMIT (q .t))
 unfolding smallPose
 pose-parts q t =
-    let r = and-r (withinV NEAR-ONE (q .r .r0)) _ t in
-    let s = and-r (withinV NEAR-ONE (q .r .r1)) _ r in
-    (and-l (withinV NEAR-ONE (q .r .r0)) _ t, and-l (withinV NEAR-ONE (q .r .r1)) _ r, and-l (withinV NEAR-ONE (q .r .r2)) _ s, and-r (withinV NEAR-ONE (q .r .r2)) _ s)
+    let r = and-r (withinV UNIT-LIMIT (q .r .r0)) _ t in
+    let s = and-r (withinV UNIT-LIMIT (q .r .r1)) _ r in
+    (and-l (withinV UNIT-LIMIT (q .r .r0)) _ t, and-l (withinV UNIT-LIMIT (q .r .r1)) _ r, and-l (withinV UNIT-LIMIT (q .r .r2)) _ s, and-r (withinV UNIT-LIMIT (q .r .r2)) _ s)
 
 abbrev number : (limit : Float) → T (positive limit) → (x : Float) → T (within limit x) → Bounded
 number limit p x t = input (units limit) x (up-to limit p x t)
@@ -85,8 +85,8 @@ vector limit p v t =
     let h = vector-parts limit v t in
     record { x = number limit p (v .x) (h .0); y = number limit p (v .y) (h .1); z = number limit p (v .z) (h .2) }
 
-abbrev unit : (v : Vec Float) → T (withinV NEAR-ONE v) → Vec Bounded
-unit = vector NEAR-ONE unit-positive
+abbrev unit : (v : Vec Float) → T (withinV UNIT-LIMIT v) → Vec Bounded
+unit = vector UNIT-LIMIT unit-positive
 
 abbrev posed : (q : Pose Float) → T (smallPose q) → Pose Bounded
 posed q t =
@@ -100,7 +100,7 @@ sheet = number THOUSAND sheet-positive
 abbrev pointAt : (q : Pose Float) → T (smallPose q) → (v : Vec Float) → T (withinV THOUSAND v) → Vec Bounded
 pointAt q h v t = place bounded (posed q h) (vector THOUSAND sheet-positive v t)
 
-abbrev directionAt : (q : Pose Float) → T (smallPose q) → (v : Vec Float) → T (withinV NEAR-ONE v) → Vec Bounded
+abbrev directionAt : (q : Pose Float) → T (smallPose q) → (v : Vec Float) → T (withinV UNIT-LIMIT v) → Vec Bounded
 directionAt q h v t = apply bounded (posed q h .r) (unit v t)
 
 abbrev at : (q : Pose Float) → T (smallPose q) → (g : Geo Float) → T (smallGeo g) → Geo Bounded
@@ -110,7 +110,7 @@ at q h (line p d) t = line (pointAt q h p (and-l (withinV THOUSAND p) _ t)) (dir
 at q h (point p) t = point (pointAt q h p t)
 at q h (circle c n r) t =
     let s = and-r (withinV THOUSAND c) _ t in
-    circle (pointAt q h c (and-l (withinV THOUSAND c) _ t)) (directionAt q h n (and-l (withinV NEAR-ONE n) _ s)) (sheet r (and-r (withinV NEAR-ONE n) _ s))
+    circle (pointAt q h c (and-l (withinV THOUSAND c) _ t)) (directionAt q h n (and-l (withinV UNIT-LIMIT n) _ s)) (sheet r (and-r (withinV UNIT-LIMIT n) _ s))
 
 -- ---- every law and pair
 
@@ -232,12 +232,12 @@ end-parts : (e : End) → T (smallEnd e) → T (smallGeo (e .prim)) × T (within
 unfolding smallEnd
 end-parts e t = (and-l (smallGeo (e .prim)) _ t, and-r (smallGeo (e .prim)) _ t)
 
-plane-placed : (q : Pose Float) (g : Geo Float) → isPlane (placed doubles q g) ≡ isPlane g
+plane-bodyd : (q : Pose Float) (g : Geo Float) → isPlane (placed doubles q g) ≡ isPlane g
 unfolding placed isPlane
-plane-placed q (plane p n) = refl
-plane-placed q (line p d) = refl
-plane-placed q (point p) = refl
-plane-placed q (circle c n r) = refl
+plane-bodyd q (plane p n) = refl
+plane-bodyd q (line p d) = refl
+plane-bodyd q (point p) = refl
+plane-bodyd q (circle c n r) = refl
 
 module _ (a b : End) (qa qb qs : Pose Float) where
   -- on doubles, the rows are those of the formulas
@@ -247,7 +247,7 @@ module _ (a b : End) (qa qb qs : Pose Float) where
   same-rows (flush off) x = refl
   same-rows (angle want reference) x = absurd (holds x)
   same-rows (insert off aligned) x = refl
-  same-rows (tangent off inside) x = rw (plane-placed qa (a .prim), plane-placed qb (b .prim), x)
+  same-rows (tangent off inside) x = rw (plane-bodyd qa (a .prim), plane-bodyd qb (b .prim), x)
   same-rows (symmetry p) x = refl
   same-rows (joint kind flip off want) x = absurd (holds x)
 

@@ -13,7 +13,7 @@ use Rattle.numbers.specs.Differs.{Differs-by-at-most}
 use Rattle.relations.specs.Geometry.{Geo, plane, line, point, circle, Pose}
 use Rattle.relations.specs.Model.{End, Law, mate, flush, angle, insert, tangent, symmetry, joint, Rel}
 use Rattle.relations.specs.Rows.{isPlane, formulaRows, residual, ground}
-use Rattle.records.specs.Limits.{NEAR-ONE, THOUSAND, within, withinV}
+use Rattle.records.specs.Limits.{UNIT-LIMIT, THOUSAND, within, withinV}
 use Rattle.scene.specs.Solve.{planeBody, names, endPose, rowsAt}
 
 -- ---- the limits, beside those of a sheet's doubles
@@ -31,15 +31,15 @@ TEN-MILLION = 10 ^ 7
 -- turning entries up to 1.01 and position entries up to 4096 in magnitude
 unfoldable pub smallPose : Pose Float → Bool
 unfolding withinV
-smallPose q = withinV NEAR-ONE (q .r .r0) && (withinV NEAR-ONE (q .r .r1) && (withinV NEAR-ONE (q .r .r2) && withinV POSITION-LIMIT (q .t)))
+smallPose q = withinV UNIT-LIMIT (q .r .r0) && (withinV UNIT-LIMIT (q .r .r1) && (withinV UNIT-LIMIT (q .r .r2) && withinV POSITION-LIMIT (q .t)))
 
 -- directions up to 1.01, points and radii up to 1000
 unfoldable pub smallGeo : Geo Float → Bool
 unfolding withinV
-smallGeo (plane p n) = withinV THOUSAND p && withinV NEAR-ONE n
-smallGeo (line p d) = withinV THOUSAND p && withinV NEAR-ONE d
+smallGeo (plane p n) = withinV THOUSAND p && withinV UNIT-LIMIT n
+smallGeo (line p d) = withinV THOUSAND p && withinV UNIT-LIMIT d
 smallGeo (point p) = withinV THOUSAND p
-smallGeo (circle c n r) = withinV THOUSAND c && (withinV NEAR-ONE n && within THOUSAND r)
+smallGeo (circle c n r) = withinV THOUSAND c && (withinV UNIT-LIMIT n && within THOUSAND r)
 
 unfoldable pub smallEnd : End → Bool
 unfolding smallGeo
@@ -50,7 +50,7 @@ unfoldable pub smallLaw : Law → Bool
 unfolding smallEnd
 smallLaw (mate off) = within THOUSAND off
 smallLaw (flush off) = within THOUSAND off
-smallLaw (angle want reference) = within THOUSAND want && withinV NEAR-ONE reference
+smallLaw (angle want reference) = within THOUSAND want && withinV UNIT-LIMIT reference
 smallLaw (insert off aligned) = within THOUSAND off
 smallLaw (tangent off inside) = within THOUSAND off
 smallLaw (symmetry p) = smallEnd p

@@ -15,9 +15,9 @@ use borrow.Author.Tests.{leb-true, eqb-true, eq-eqb}
 use Rattle.numbers.specs.Double.{abs}
 use Rattle.vectors.specs.Vec.{Vec}
 use Rattle.relations.specs.declared.model.JointKind.the-variants.{Ball}
-use Rattle.records.specs.Numbers.{JOINT, SYMMETRY, CIRCLE, lawNumber, jointNumber, primNumber, flagNumber, placeNumber}
+use Rattle.records.specs.Numbers.{JOINT, SYMMETRY, CIRCLE, lawNumber, jointNumber, primNumber, flagNumber, bodyRefNumber}
 use Rattle.records.specs.Record.{byteAt, u16At, u64At, doubleAt, vecAt, usesJoint, usesFlag, usesPlane, bodyNumberAt, primAt, bodyAt, endAt, lawBy, relAt}
-use Rattle.records.specs.Limits.{within, withinV, THOUSAND, NEAR-ONE}
+use Rattle.records.specs.Limits.{within, withinV, THOUSAND, UNIT-LIMIT}
 use Rattle.records.proofs.NumberLaws.{each-case}
 use Rattle.records.proofs.RecordLaws.{prim-number, kind-number, law-number}
 use Rattle.format.specs.Format.{bodiesOf, relationsOf, bodyStart, relStart}
@@ -65,9 +65,9 @@ flag-back zero h = refl
 flag-back (suc zero) h = refl
 flag-back (suc (suc n)) h = absurd (omega arith)
 
-place-back : (b : ℕ) → placeNumber (bodyNumberAt b) ≡ b
+place-back : (b : ℕ) → bodyRefNumber (bodyNumberAt b) ≡ b
 unfolding bodyNumberAt
-place-back b = each-case placeNumber b (λ p. placeNumber p ≡ b) _ _ ((λ q. sym q), refl)
+place-back b = each-case bodyRefNumber b (λ p. bodyRefNumber p ≡ b) _ _ ((λ q. sym q), refl)
 
 -- ---- bodies
 
@@ -82,9 +82,9 @@ body-of s o b shape limits =
     record {
       fixed = flag-back (byteAt s o) (leb-true (byteAt s o) (flagNumber true) (search (and-left, and-right)));
       origin = vec-back s (o + 8) THOUSAND b (search (and-left, and-right));
-      x = rw (add-assoc o 8 24) (vec-back s (o + 32) NEAR-ONE b (search (and-left, and-right)));
-      y = rw (add-assoc o 8 48) (vec-back s (o + 56) NEAR-ONE b (search (and-left, and-right)));
-      z = rw (add-assoc o 8 72) (vec-back s (o + 80) NEAR-ONE b (search (and-left, and-right)));
+      x = rw (add-assoc o 8 24) (vec-back s (o + 32) UNIT-LIMIT b (search (and-left, and-right)));
+      y = rw (add-assoc o 8 48) (vec-back s (o + 56) UNIT-LIMIT b (search (and-left, and-right)));
+      z = rw (add-assoc o 8 72) (vec-back s (o + 80) UNIT-LIMIT b (search (and-left, and-right)));
       center = vec-back s (o + 104) THOUSAND b (search (and-left, and-right));
       size = double-back s (o + 128) THOUSAND b (search (and-left, and-right));
     }
@@ -108,7 +108,7 @@ end-back law s e b shape limits =
       body = place-back (u16At s (e + 2));
       prim =
           prim-back s e (byteAt s e) (vecAt s (e + 8)) (vecAt s (e + 32)) (doubleAt s (e + 56)) (vec-back s (e + 8) THOUSAND b (search (and-left, and-right)))
-          (vec-back s (e + 32) NEAR-ONE b (search (and-left, and-right))) (double-back s (e + 56) THOUSAND b (search (and-left, and-right)));
+          (vec-back s (e + 32) UNIT-LIMIT b (search (and-left, and-right))) (double-back s (e + 56) THOUSAND b (search (and-left, and-right)));
       radius = double-back s (e + 64) THOUSAND b (search (and-left, and-right));
     }
 
@@ -137,7 +137,7 @@ rel-of s r b shape limits =
           law-back law s r (up-to (usesJoint law) (jointNumber Ball) (byteAt s (r + 1)) (search (and-left, and-right) depth 12))
           (up-to (usesFlag law) (flagNumber true) (byteAt s (r + 2)) (search (and-left, and-right) depth 12))
           (double-back s (r + 8) THOUSAND b (search (and-left, and-right) depth 12)) (double-back s (r + 16) THOUSAND b (search (and-left, and-right) depth 12))
-          (vec-back s (r + 24) NEAR-ONE b (search (and-left, and-right) depth 12))
+          (vec-back s (r + 24) UNIT-LIMIT b (search (and-left, and-right) depth 12))
           (λ p. end-back law s (r + 192) b (plane-used law s (r + 192) (search (and-left, and-right) depth 12) p) (search (and-left, and-right) depth 12));
       a = end-back law s (r + 48) b (search (and-left, and-right) depth 12) (search (and-left, and-right) depth 12);
       b = end-back law s (r + 120) b (search (and-left, and-right) depth 12) (search (and-left, and-right) depth 12);

@@ -8,7 +8,7 @@ use lib.Dec.{eqb, leb, ltb}
 use Rattle.relations.specs.declared.model.JointKind.the-variants.{Ball}
 use Rattle.records.specs.Numbers.{JOINT, CIRCLE, jointNumber, flagNumber, GROUND}
 use Rattle.records.specs.Record.{byteAt, u16At, u32At, doubleAt, vecAt, zeroBytes, usesOffset, usesAngle, usesReference, usesFlag, usesJoint, usesEndRadius, usesPlane, usesDirection, usesCircleRadius}
-use Rattle.records.specs.Limits.{NEAR-ONE, THOUSAND, within, withinV}
+use Rattle.records.specs.Limits.{UNIT-LIMIT, THOUSAND, within, withinV}
 use Rattle.format.specs.Format.{bodiesOf, relationsOf, bodyStart, relStart}
 
 -- the first of two tests' numbers that is not 0; the second is asked only where the first gives 0
@@ -86,21 +86,21 @@ relNames m s r = endNames m s (r + 48) && (endNames m s (r + 120) && (not (usesP
 unfoldable pub bodyLimits : List ℕ → ℕ → Bool
 bodyLimits s o =
     withinV THOUSAND (vecAt s (o + 8))
-    && (withinV NEAR-ONE (vecAt s (o + 32))
-    && (withinV NEAR-ONE (vecAt s (o + 56))
-    && (withinV NEAR-ONE (vecAt s (o + 80)) && (withinV THOUSAND (vecAt s (o + 104)) && within THOUSAND (doubleAt s (o + 128))))))
+    && (withinV UNIT-LIMIT (vecAt s (o + 32))
+    && (withinV UNIT-LIMIT (vecAt s (o + 56))
+    && (withinV UNIT-LIMIT (vecAt s (o + 80)) && (withinV THOUSAND (vecAt s (o + 104)) && within THOUSAND (doubleAt s (o + 128))))))
 
 unfoldable pub endLimits : List ℕ → ℕ → Bool
 endLimits s e =
     withinV THOUSAND (vecAt s (e + 8))
-    && (withinV NEAR-ONE (vecAt s (e + 32)) && (within THOUSAND (doubleAt s (e + 56)) && within THOUSAND (doubleAt s (e + 64))))
+    && (withinV UNIT-LIMIT (vecAt s (e + 32)) && (within THOUSAND (doubleAt s (e + 56)) && within THOUSAND (doubleAt s (e + 64))))
 
 -- an unused field is 0 by then, and 0 is within every limit
 unfoldable pub relLimits : List ℕ → ℕ → Bool
 relLimits s r =
     within THOUSAND (doubleAt s (r + 8))
     && (within THOUSAND (doubleAt s (r + 16))
-    && (withinV NEAR-ONE (vecAt s (r + 24)) && (endLimits s (r + 48) && (endLimits s (r + 120) && endLimits s (r + 192)))))
+    && (withinV UNIT-LIMIT (vecAt s (r + 24)) && (endLimits s (r + 48) && (endLimits s (r + 120) && endLimits s (r + 192)))))
 
 -- ---- the records in order
 

@@ -7,7 +7,7 @@ use lib.Ieee.{Float, binary64, toBits}
 use Rattle.vectors.specs.Vec.{Vec}
 use Rattle.relations.specs.Geometry.{Geo, plane, line, point, circle}
 use Rattle.relations.specs.Model.{Body, End, Law, mate, flush, angle, insert, tangent, symmetry, joint, Rel}
-use Rattle.records.specs.Numbers.{lawNumber, jointNumber, primNumber, flagNumber, placeNumber}
+use Rattle.records.specs.Numbers.{lawNumber, jointNumber, primNumber, flagNumber, bodyRefNumber}
 use Rattle.records.specs.Record.{byteAt, u16At, u64At}
 
 -- ---- the bits at place o
@@ -39,7 +39,7 @@ PrimBack s e (circle c n r) = VecBack s (e + 8) c × (VecBack s (e + 32) n × Do
 pub record EndBack (s : List ℕ) (e : ℕ) (a : End) : Type 0 where
   pub kind : primNumber (a .prim) ≡ byteAt s e
   pub mirrored : flagNumber (a .mirrored) ≡ byteAt s (e + 1)
-  pub body : placeNumber (a .body) ≡ u16At s (e + 2)
+  pub body : bodyRefNumber (a .body) ≡ u16At s (e + 2)
   pub prim : PrimBack s e (a .prim)
   pub radius : DoubleBack s (e + 64) (a .radius)
 

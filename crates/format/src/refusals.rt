@@ -12,7 +12,7 @@ ghost use Rattle.records.specs.Limits as limits;
 ghost use Rattle.format.specs.Faults as spec;
 
 // The limits of a double: directions, frame axes and references; all others.
-const NEAR_ONE: f64 = 1.01;
+const UNIT_LIMIT: f64 = 1.01;
 
 const THOUSAND: f64 = 1000.0;
 
@@ -267,9 +267,9 @@ fn body_limits(s: &[u8], o: usize) -> bool
     ensures { λ r. ⌜ r ≡ spec.bodyLimits (now (s .entry)) o ⌝ }
 {
     let origin = vec_within(THOUSAND, s, o + 8);
-    let x = vec_within(NEAR_ONE, s, o + 32);
-    let y = vec_within(NEAR_ONE, s, o + 56);
-    let z = vec_within(NEAR_ONE, s, o + 80);
+    let x = vec_within(UNIT_LIMIT, s, o + 32);
+    let y = vec_within(UNIT_LIMIT, s, o + 56);
+    let z = vec_within(UNIT_LIMIT, s, o + 80);
     let center = vec_within(THOUSAND, s, o + 104);
     let size = double_within(THOUSAND, s, o + 128);
     origin & (x & (y & (z & (center & size))))
@@ -280,7 +280,7 @@ fn end_limits(s: &[u8], e: usize) -> bool
     ensures { λ r. ⌜ r ≡ spec.endLimits (now (s .entry)) e ⌝ }
 {
     let point = vec_within(THOUSAND, s, e + 8);
-    let direction = vec_within(NEAR_ONE, s, e + 32);
+    let direction = vec_within(UNIT_LIMIT, s, e + 32);
     let circle_radius = double_within(THOUSAND, s, e + 56);
     let end_radius = double_within(THOUSAND, s, e + 64);
     point & (direction & (circle_radius & end_radius))
@@ -292,7 +292,7 @@ fn rel_limits(s: &[u8], r: usize) -> bool
 {
     let offset = double_within(THOUSAND, s, r + 8);
     let angle = double_within(THOUSAND, s, r + 16);
-    let reference = vec_within(NEAR_ONE, s, r + 24);
+    let reference = vec_within(UNIT_LIMIT, s, r + 24);
     let a = end_limits(s, r + 48);
     let b = end_limits(s, r + 120);
     let plane = end_limits(s, r + 192);

@@ -32,9 +32,9 @@ use Rattle.least_squares.proofs.MemoryLaws.{take-same, taken-part, kept-refl, k
 use Rattle.least_squares.proofs.TableLaws.{length-listOf}
 use Rattle.scene.proofs.SceneLaws.{put-one, put-then, rel-small, poses-there, length-poses, length-layout, length-bodies}
 use Rattle.placement.specs.Answer.{frameDoubles, framesDoubles, Worst, Ended, Filled}
-use Rattle.rounds.specs.Places.{Arranged}
+use Rattle.rounds.specs.Parts.{Arranged}
 use Rattle.rounds.specs.Rounds.{weightsIn, unknownsIn, firstIn, Ran}
-use Rattle.rounds.specs.declared.places.Places.{Places as PlacesStruct}
+use Rattle.rounds.specs.declared.parts.SolveParts.{SolveParts as PartsStruct}
 use Rattle.rounds.specs.declared.rounds.RunEnd.{RunEnd as RunEndStruct}
 
 -- ---- lists written double by double
@@ -137,27 +137,27 @@ frames-step sheet c s d e u p i w h x y =
 
 -- ---- the largest row
 
-pub worst-is : (sc : Scene) (c : SceneStruct) (p : PlacesStruct) (s t : List Float) (x : ℕ) (r : Float) → RowsAt sc s t x (c .n) (p .ahead) (c .rows) (p .poses)
+pub worst-is : (sc : Scene) (c : SceneStruct) (p : PartsStruct) (s t : List Float) (x : ℕ) (r : Float) → RowsAt sc s t x (c .n) (p .ahead) (c .rows) (p .poses)
     → r ≡ maxAbs (part t (p .ahead) (c .rows)) → Worst sc c p s t x r
 worst-is sc c p s t x r y e = record { told = e ∙ ap maxAbs (y .holds); size = y .size; below = take-same s t (p .ahead) (y .size) (y .below) }
 
 -- ---- the retry
 
 -- what stands below `ahead` is as it was
-worst-part : (sc : Scene) (c : SceneStruct) (p : PlacesStruct) (s t : List Float) (x : ℕ) (r : Float) (o k : ℕ) → o + k ≤ p .ahead → Worst sc c p s t x r → part t o k ≡ part s o k
+worst-part : (sc : Scene) (c : SceneStruct) (p : PartsStruct) (s t : List Float) (x : ℕ) (r : Float) (o k : ℕ) → o + k ≤ p .ahead → Worst sc c p s t x r → part t o k ≡ part s o k
 worst-part sc c p s t x r o k h y = taken-part s t (p .ahead) o k (y .size) (y .below) h
 
-abbrev pub retryOf : Scene → SceneStruct → PlacesStruct → List Float → Outcome
+abbrev pub retryOf : Scene → SceneStruct → PartsStruct → List Float → Outcome
 retryOf sc c p s = run (rowsOf sc) (weightsIn c p s) ASSEMBLY MAX-ITER (listOf slightTurn (c .n))
 
 -- the second run has ended, from the scratch s of the first run's end
-pub record Again (sc : Scene) (c : SceneStruct) (p : PlacesStruct) (s t : List Float) (ok : Bool) : Type 0 where
+pub record Again (sc : Scene) (c : SceneStruct) (p : PartsStruct) (s t : List Float) (ok : Bool) : Type 0 where
   pub told : ok ≡ retryOf sc c p s .converged
   pub unknowns-are : unknownsIn c p t ≡ retryOf sc c p s .x
   pub first : firstIn c p t ≡ unknownsIn c p s
   pub size : length t ≡ length s
 
-pub again-is : (sc : Scene) (c : SceneStruct) (p : PlacesStruct) (s t u v : List Float) (e : RunEndStruct) → Arranged c p (length s) → Copied s t (p .x) (p .first) (c .n)
+pub again-is : (sc : Scene) (c : SceneStruct) (p : PartsStruct) (s t u v : List Float) (e : RunEndStruct) → Arranged c p (length s) → Copied s t (p .x) (p .first) (c .n)
     → Put t u (p .x) (c .n) (listOf slightTurn (c .n)) → Ran c p u v (run (rowsOf sc) (weightsIn c p u) ASSEMBLY MAX-ITER (unknownsIn c p u)) e → Again sc c p s v (e .converged)
 again-is sc c p s t u v e a d y r =
     let w : weightsIn c p u ≡ weightsIn c p s
@@ -180,7 +180,7 @@ better-smaller : (sc : Scene) (first retry : Outcome) (a b : Float) (t : Bool) �
 unfolding better
 better-smaller sc first retry a b t h e f g = rw (h, ← e, ← f, g)
 
-module _ (sc : Scene) (c : SceneStruct) (p : PlacesStruct) (s v : List Float) (ok : Bool) (first : Outcome) (a : Again sc c p s v ok) where
+module _ (sc : Scene) (c : SceneStruct) (p : PartsStruct) (s v : List Float) (ok : Bool) (first : Outcome) (a : Again sc c p s v ok) where
   pub retry-converged : ok ≡ true → Ended c p s v (better sc first (retryOf sc c p s)) true
   retry-converged h =
       let k : retryOf sc c p s .converged ≡ true = sym (a .told) ∙ h in
@@ -230,13 +230,13 @@ abbrev pub firstOf : Scene → Option ℕ → Outcome
 firstOf sc drag = runFrom sc drag (listOf startAt (unknowns sc))
 
 -- the first run has ended
-pub record Begun (sc : Scene) (c : SceneStruct) (p : PlacesStruct) (drag : Option ℕ) (s t : List Float) (ok : Bool) : Type 0 where
+pub record Begun (sc : Scene) (c : SceneStruct) (p : PartsStruct) (drag : Option ℕ) (s t : List Float) (ok : Bool) : Type 0 where
   pub told : ok ≡ firstOf sc drag .converged
   pub unknowns-are : unknownsIn c p t ≡ firstOf sc drag .x
   pub weights-are : weightsIn c p t ≡ map inverseWeight (weights sc drag)
   pub size : length t ≡ length s
 
-pub begun-is : (sc : Scene) (c : SceneStruct) (p : PlacesStruct) (drag : Option ℕ) (s t u v : List Float) (e : RunEndStruct) → c .n ≡ unknowns sc → Arranged c p (length s)
+pub begun-is : (sc : Scene) (c : SceneStruct) (p : PartsStruct) (drag : Option ℕ) (s t u v : List Float) (e : RunEndStruct) → c .n ≡ unknowns sc → Arranged c p (length s)
     → Put s t (p .weights) (c .n) (map inverseWeight (weights sc drag)) → Put t u (p .x) (c .n) (listOf startAt (c .n))
     → Ran c p u v (run (rowsOf sc) (weightsIn c p u) ASSEMBLY MAX-ITER (unknownsIn c p u)) e → Begun sc c p drag s v (e .converged)
 begun-is sc c p drag s t u v e k a d y r =
@@ -268,7 +268,7 @@ solved-twice : (sc : Scene) (drag : Option ℕ) → firstOf sc drag .converged �
     → solved sc drag ≡ better sc (firstOf sc drag) (runFrom sc drag (listOf slightTurn (unknowns sc)))
 solved-twice sc drag h e = solved-by sc drag false false h (ne-eqb (unknowns sc) 0 e)
 
-module _ (sc : Scene) (c : SceneStruct) (p : PlacesStruct) (drag : Option ℕ) (s v : List Float) (ok : Bool) (k : c .n ≡ unknowns sc) (b : Begun sc c p drag s v ok) where
+module _ (sc : Scene) (c : SceneStruct) (p : PartsStruct) (drag : Option ℕ) (s v : List Float) (ok : Bool) (k : c .n ≡ unknowns sc) (b : Begun sc c p drag s v ok) where
   first-ended : (t : Bool) → ok ≡ t → solved sc drag ≡ firstOf sc drag → Ended c p s v (solved sc drag) t
   first-ended t h e =
       record { told = sym h ∙ b .told ∙ ap (λ (q : Outcome). q .converged) (sym e); unknowns = b .unknowns-are ∙ ap (λ (q : Outcome). q .x) (sym e); size = b .size }
@@ -289,7 +289,7 @@ module _ (sc : Scene) (c : SceneStruct) (p : PlacesStruct) (drag : Option ℕ) (
 
 -- ---- what `solve` fills in
 
-pub filled-is : (sheet : List ℕ) (c : SceneStruct) (p : PlacesStruct) (drag : Option ℕ) (s t u poses poses' frames frames' errors errors' : List Float) (ok : Bool)
+pub filled-is : (sheet : List ℕ) (c : SceneStruct) (p : PartsStruct) (drag : Option ℕ) (s t u poses poses' frames frames' errors errors' : List Float) (ok : Bool)
     → Ended c p s t (solved (sceneOf sheet c) drag) ok → Put t u (p .poses) (12 * c .m) (posesDoubles (posesAt (sceneOf sheet c) (part t (p .x) (c .n))))
     → poses' ≡ part u (p .poses) (12 * c .m) ++ drop (12 * c .m) poses
     → frames' ≡ framesDoubles (framesFrom (posesIn u (p .poses) (c .m)) (sceneOf sheet c .bodies)) ++ drop (12 * c .m) frames

@@ -14,7 +14,7 @@ use Rattle.least_squares.specs.Memory.{part}
 use Rattle.scene.specs.Scene.{fourDoubles, posesDoubles}
 use Rattle.scene.specs.Solve.{Scene, rowsOf, solved, solve}
 use Rattle.scene.specs.declared.scene.Scene.{Scene as SceneStruct}
-use Rattle.rounds.specs.declared.places.Places.{Places as PlacesStruct}
+use Rattle.rounds.specs.declared.parts.SolveParts.{SolveParts as PartsStruct}
 
 -- a frame: origin, x, y, z
 abbrev pub frameDoubles : Frame → List Float
@@ -25,13 +25,13 @@ framesDoubles [] = []
 framesDoubles (f ∷ frames) = frameDoubles f ++ framesDoubles frames
 
 -- the largest row at the unknowns from x on, told; below `ahead` nothing has changed, and what is left from there on is open
-pub record Worst (sc : Scene) (c : SceneStruct) (p : PlacesStruct) (s t : List Float) (x : ℕ) (worst : Float) : Type 0 where
+pub record Worst (sc : Scene) (c : SceneStruct) (p : PartsStruct) (s t : List Float) (x : ℕ) (worst : Float) : Type 0 where
   pub told : worst ≡ maxAbs (rowsOf sc (part s x (c .n)))
   pub size : length t ≡ length s
   pub below : take (p .ahead) t ≡ take (p .ahead) s
 
 -- the runs have ended as o says: its unknowns stand at `x`, and ok says whether it converged; what else is left in the scratch is open
-pub record Ended (c : SceneStruct) (p : PlacesStruct) (s t : List Float) (o : Outcome) (ok : Bool) : Type 0 where
+pub record Ended (c : SceneStruct) (p : PartsStruct) (s t : List Float) (o : Outcome) (ok : Bool) : Type 0 where
   pub told : ok ≡ o .converged
   pub unknowns : part t (p .x) (c .n) ≡ o .x
   pub size : length t ≡ length s

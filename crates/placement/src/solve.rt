@@ -14,16 +14,16 @@ ghost use Rattle.least_squares.specs.Memory.{part};
 ghost use Rattle.relations.specs.Model.{bodyNumber};
 ghost use Rattle.scene.specs.Scene.{Laid, Put, sceneOf, posesIn};
 ghost use Rattle.scene.specs.Solve as definitions;
-ghost use Rattle.rounds.specs.Places.{Arranged, need};
+ghost use Rattle.rounds.specs.Parts.{Arranged, need};
 ghost use Rattle.rounds.specs.Rounds as rounds_spec;
 ghost use Rattle.placement.specs.Answer as spec;
 use least_squares::lm::copy;
 use records::record::body_at;
 use records::record::rel_at;
 use relations::geometry::frame_or;
-use relations::model::Place;
-use rounds::places::Places;
-use rounds::places::arrange;
+use relations::model::BodyRef;
+use rounds::parts::SolveParts;
+use rounds::parts::solve_parts;
 use rounds::rounds::run;
 use rounds::trial::largest;
 use scene::scene::Scene;
@@ -73,7 +73,7 @@ fn put_turn(s: &mut [f64], x: usize, n: usize)
 }
 
 // The largest row at the unknowns from x on.
-fn worst(sheet: &[u8], scene: Scene, s: &mut [f64], p: Places, x: usize) -> f64
+fn worst(sheet: &[u8], scene: Scene, s: &mut [f64], p: SolveParts, x: usize) -> f64
     requires { ⌜ Laid (now sheet) scene ⌝ }
     requires { ⌜ Arranged scene p (length (now s)) ⌝ }
     requires { ⌜ x + scene .n ≤ p .ahead ⌝ }
@@ -84,7 +84,7 @@ fn worst(sheet: &[u8], scene: Scene, s: &mut [f64], p: Places, x: usize) -> f64
 }
 
 // The retry, the first run having ended unconverged at the unknowns at `x`. Whether it converged; it is kept then, or if its largest row is smaller.
-fn retry(sheet: &[u8], scene: Scene, s: &mut [f64], p: Places) -> bool
+fn retry(sheet: &[u8], scene: Scene, s: &mut [f64], p: SolveParts) -> bool
     requires { ⌜ Laid (now sheet) scene ⌝ }
     requires { ⌜ Arranged scene p (length (now s)) ⌝ }
     requires { ⌜ scene .n ≤ 384 ⌝ }
@@ -106,7 +106,7 @@ fn retry(sheet: &[u8], scene: Scene, s: &mut [f64], p: Places) -> bool
 }
 
 // Both runs. Whether the one that is kept converged.
-fn solved(sheet: &[u8], scene: Scene, s: &mut [f64], p: Places, drag: Place) -> bool
+fn solved(sheet: &[u8], scene: Scene, s: &mut [f64], p: SolveParts, drag: BodyRef) -> bool
     requires { ⌜ Laid (now sheet) scene ⌝ }
     requires { ⌜ Arranged scene p (length (now s)) ⌝ }
     requires { ⌜ scene .n ≤ 384 ⌝ }
@@ -185,7 +185,7 @@ pub fn solve(
     sheet: &[u8],
     scene: Scene,
     s: &mut [f64],
-    drag: Place,
+    drag: BodyRef,
     poses: &mut [f64],
     frames: &mut [f64],
     errors: &mut [f64],
@@ -198,7 +198,7 @@ pub fn solve(
     requires { ⌜ scene .k ≤ length (now errors) ⌝ }
     ensures { λ ok. ⌜ spec.Filled (sceneOf (now (sheet .entry)) scene) (bodyNumber drag) (scene .m) (scene .k) (now (poses .entry)) (now (poses .exit)) (now (frames .entry)) (now (frames .exit)) (now (errors .entry)) (now (errors .exit)) ok ⌝ }
 {
-    let p = arrange(scene);
+    let p = solve_parts(scene);
     let converged = solved(sheet, scene, s, p, drag);
     poses_at(sheet, scene, s, p.x, p.poses);
     copy_out(s, p.poses, poses, 12 * scene.m);

@@ -6,8 +6,8 @@ use Rattle.numbers.specs.Double.{abs}
 use Rattle.vectors.specs.Vec.{Vec}
 
 -- 1.01, its nearest double: for directions, frame axes and the reference
-abbrev pub NEAR-ONE : Float
-NEAR-ONE = ofBits binary64 0x3FF0_28F5_C28F_5C29
+abbrev pub UNIT-LIMIT : Float
+UNIT-LIMIT = ofBits binary64 0x3FF0_28F5_C28F_5C29
 
 -- 1000: for every other double of a sheet
 abbrev pub THOUSAND : Float

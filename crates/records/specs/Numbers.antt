@@ -82,9 +82,9 @@ flagNumber true = 1
 abbrev pub GROUND : ℕ
 GROUND = 0xFFFF
 
-abbrev pub placeNumber : Option ℕ → ℕ
-placeNumber none = GROUND
-placeNumber (some i) = i
+abbrev pub bodyRefNumber : Option ℕ → ℕ
+bodyRefNumber none = GROUND
+bodyRefNumber (some i) = i
 
 -- ---- from the number to its case
 

@@ -13,7 +13,7 @@ use Rattle.relations.specs.Geometry.{Geo, plane, line, point, circle}
 use Rattle.relations.specs.Model.{Body, End, Law, mate, flush, angle, insert, tangent, symmetry, joint, Rel}
 use Rattle.relations.specs.declared.model.JointKind.{JointKind}
 use Rattle.relations.specs.declared.model.JointKind.the-variants.{Rigid, Revolute, Slider, Cylindrical, Planar, Ball}
-use Rattle.records.specs.Numbers.{MATE, FLUSH, ANGLE, INSERT, TANGENT, SYMMETRY, JOINT, POINT, CIRCLE, lawNumber, jointNumber, primNumber, flagNumber, placeNumber, byNumber}
+use Rattle.records.specs.Numbers.{MATE, FLUSH, ANGLE, INSERT, TANGENT, SYMMETRY, JOINT, POINT, CIRCLE, lawNumber, jointNumber, primNumber, flagNumber, bodyRefNumber, byNumber}
 
 -- ---- numbers
 
@@ -98,7 +98,7 @@ primAt n p d r = byNumber primNumber n (plane p d ∷ line p d ∷ point p ∷ [
 
 -- the body by its number, none for the ground
 unfoldable pub bodyNumberAt : ℕ → Option ℕ
-bodyNumberAt b = byNumber placeNumber b (none ∷ []) (some b)
+bodyNumberAt b = byNumber bodyRefNumber b (none ∷ []) (some b)
 
 unfoldable pub endAt : List ℕ → ℕ → End
 endAt s e =

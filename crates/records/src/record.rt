@@ -2,10 +2,10 @@
 
 use relations::geometry::Prim;
 use relations::model::Body;
+use relations::model::BodyRef;
 use relations::model::End;
 use relations::model::JointKind;
 use relations::model::Law;
-use relations::model::Place;
 use relations::model::Rel;
 use vectors::space::Frame;
 use vectors::vec::Vec3;
@@ -124,14 +124,14 @@ fn prim_of(kind: u8, p: Vec3, d: Vec3, r: f64) -> Prim
     }
 }
 
-fn place_of(b: u64) -> Place
+fn body_ref(b: u64) -> BodyRef
     requires { ⌜ b < 0x1_0000 ⌝ }
     ensures { λ r. ⌜ bodyNumber r ≡ spec.bodyNumberAt b ⌝ }
 {
     if b == 0xFFFF {
-        Place::Ground
+        BodyRef::Ground
     } else {
-        Place::Of(b as usize)
+        BodyRef::Of(b as usize)
     }
 }
 
@@ -140,7 +140,7 @@ fn end_at(s: &[u8], e: usize) -> End
     ensures { λ r. ⌜ endOf r ≡ spec.endAt (now (s .entry)) e ⌝ }
 {
     End {
-        body: place_of(u16_at(s, e + 2)),
+        body: body_ref(u16_at(s, e + 2)),
         prim: prim_of(
             s[e],
             vec_at(s, e + 8),

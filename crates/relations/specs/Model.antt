@@ -8,8 +8,8 @@ use Rattle.vectors.specs.Space.{Frame, frame}
 use Rattle.vectors.specs.Math.{mat, ofFrame}
 use Rattle.relations.specs.Geometry.{Geo, prim, Pose}
 use Rattle.relations.specs.declared.model.JointKind.{JointKind}
-use Rattle.relations.specs.declared.model.Place.{Place}
-use Rattle.relations.specs.declared.model.Place.the-variants.{Ground, Of}
+use Rattle.relations.specs.declared.model.BodyRef.{BodyRef}
+use Rattle.relations.specs.declared.model.BodyRef.the-variants.{Ground, Of}
 use Rattle.relations.specs.declared.model.End.{End as EndStruct}
 use Rattle.relations.specs.declared.model.Law.{Law as LawEnum}
 use Rattle.relations.specs.declared.model.Law.the-variants.{Mate, Flush, Angle, Insert, Tangent, Symmetry, Joint}
@@ -46,7 +46,7 @@ pub record Rel : Type 0 where
 
 -- ---- the numbers of the structs and enums of the code
 
-abbrev pub bodyNumber : Place → Option ℕ
+abbrev pub bodyNumber : BodyRef → Option ℕ
 bodyNumber Ground = none
 bodyNumber (Of i) = some i
 

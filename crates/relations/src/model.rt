@@ -29,14 +29,14 @@ pub struct Body {
 }
 
 // What an end belongs to.
-pub enum Place {
+pub enum BodyRef {
     Ground,
     Of(usize),
 }
 
 // One side of a relation, its geometry in its body's coordinates.
 pub struct End {
-    pub body: Place,
+    pub body: BodyRef,
     pub prim: Prim,
     pub radius: f64,
     pub mirrored: bool,

@@ -20,19 +20,19 @@ use Rattle.least_squares.specs.Lm.{State, Tried, Outcome, norm2, jacobian, norm
 use Rattle.least_squares.specs.LmPosts.{Matrix}
 use Rattle.scene.specs.Solve.{Scene, rowsOf, MAX-ITER}
 use Rattle.scene.specs.Scene.{RowsAt, Slopes}
-use Rattle.slopes.specs.NearSlopes.{Apart}
+use Rattle.slopes.specs.AnewSlopes.{Apart}
 use Rattle.scene.specs.declared.scene.Scene.{Scene as SceneStruct}
 use Rattle.least_squares.proofs.MemoryLaws.{part-length, part-part, part-below, taken-part, kept-part-below, kept-part-above, put-tail, kept-tail, tail-part}
 use Rattle.rounds.proofs.TrialLaws.{keeps-refl, keeps-trans, leaves-refl, leaves-trans}
-use Rattle.rounds.specs.Places.{need, placesOf, Arranged}
+use Rattle.rounds.specs.Parts.{need, solveParts, Arranged}
 use Rattle.rounds.specs.Rounds.{slopesIn, matrixIn, weightsIn, unknownsIn, rowsIn, stateIn, triedIn, withinIn, Keeps, Leaves, TrialMade, TrialsMade, RoundMade, Ran}
-use Rattle.rounds.specs.declared.places.Places.{Places as PlacesStruct}
+use Rattle.rounds.specs.declared.parts.SolveParts.{SolveParts as PartsStruct}
 use Rattle.rounds.specs.declared.trial.Tried.{Tried as TriedStruct}
 use Rattle.rounds.specs.declared.rounds.RunEnd.{RunEnd as RunEndStruct}
 
 -- ---- where the parts stand
 
-arranged : (c : SceneStruct) (size : ℕ) → need c ≤ size → Arranged c (placesOf c) size
+arranged : (c : SceneStruct) (size : ℕ) → need c ≤ size → Arranged c (solveParts c) size
 arranged c size h =
     record {
       first = omega arith;
@@ -55,10 +55,10 @@ arranged c size h =
       from-poses = omega arith;
     }
 
-pub arranged-as : (c : SceneStruct) (p : PlacesStruct) (size : ℕ) → p ≡ placesOf c → need c ≤ size → Arranged c p size
-arranged-as c p size e h = subst (λ (q : PlacesStruct). Arranged c q size) (sym e) (arranged c size h)
+pub arranged-as : (c : SceneStruct) (p : PartsStruct) (size : ℕ) → p ≡ solveParts c → need c ≤ size → Arranged c p size
+arranged-as c p size e h = subst (λ (q : PartsStruct). Arranged c q size) (sym e) (arranged c size h)
 
-pub arranged-same : {c : SceneStruct} {p : PlacesStruct} {a b : ℕ} → b ≡ a → Arranged c p a → Arranged c p b
+pub arranged-same : {c : SceneStruct} {p : PartsStruct} {a b : ℕ} → b ≡ a → Arranged c p a → Arranged c p b
 arranged-same {c} {p} e h = subst (Arranged c p) (sym e) h
 
 -- ---- trials, by the definitions
@@ -110,18 +110,18 @@ module _ (f : List Float → List Float) (winv : List Float) (tol : Float) where
 -- ---- trials in memory
 
 -- the trials from a state, with the slopes, the matrix and the weights that s has
-abbrev trialsFrom : Scene → SceneStruct → PlacesStruct → List Float → ℕ → State → Tried
+abbrev trialsFrom : Scene → SceneStruct → PartsStruct → List Float → ℕ → State → Tried
 trialsFrom sc c p s k w = trials (rowsOf sc) (weightsIn c p s) ASSEMBLY (slopesIn c p s) (matrixIn c p s) (c .rows) k w
 
 -- i trials were made and none was better: those left come to what all come to
-pub record Trying (sc : Scene) (c : SceneStruct) (p : PlacesStruct) (s t : List Float) (cost mu stiffness : Float) (i : ℕ) : Type 0 where
+pub record Trying (sc : Scene) (c : SceneStruct) (p : PartsStruct) (s t : List Float) (cost mu stiffness : Float) (i : ℕ) : Type 0 where
   pub leaves : Leaves c p s t
   pub left : trialsFrom sc c p s 12 (stateIn c p s cost mu) ≡ trialsFrom sc c p s (12 - i) (stateIn c p t cost stiffness)
 
-pub trying-start : (sc : Scene) (c : SceneStruct) (p : PlacesStruct) (s : List Float) (cost mu : Float) → Trying sc c p s s cost mu mu 0
+pub trying-start : (sc : Scene) (c : SceneStruct) (p : PartsStruct) (s : List Float) (cost mu : Float) → Trying sc c p s s cost mu mu 0
 trying-start sc c p s cost mu = record { leaves = leaves-refl c p s; left = refl }
 
-module _ (sc : Scene) (c : SceneStruct) (p : PlacesStruct) (s t u : List Float) (cost mu d : Float) (i : ℕ) (r : TriedStruct)
+module _ (sc : Scene) (c : SceneStruct) (p : PartsStruct) (s t u : List Float) (cost mu d : Float) (i : ℕ) (r : TriedStruct)
     (h : i < 12) (g : Trying sc c p s t cost mu d i) (m : TrialMade sc c p t u cost d r) where
   tried-is : triedIn c p u r ≡ trial (rowsOf sc) (weightsIn c p s) ASSEMBLY (slopesIn c p s) (matrixIn c p s) (c .rows) (stateIn c p t cost d)
   tried-is =
@@ -154,7 +154,7 @@ module _ (sc : Scene) (c : SceneStruct) (p : PlacesStruct) (s t u : List Float) 
             ∙ ap (λ (v : Float). trialsFrom sc c p s (12 - (i + 1)) (stateIn c p u v (r .mu))) (same-cost e);
       }
 
-pub trying-end : (sc : Scene) (c : SceneStruct) (p : PlacesStruct) (s t : List Float) (cost mu d : Float) (i : ℕ) → i ≡ 12 → Trying sc c p s t cost mu d i
+pub trying-end : (sc : Scene) (c : SceneStruct) (p : PartsStruct) (s t : List Float) (cost mu d : Float) (i : ℕ) → i ≡ 12 → Trying sc c p s t cost mu d i
     → TrialsMade sc c p s t cost mu (record { better = false; cost = cost; mu = d })
 trying-end sc c p s t cost mu d i e g =
     let z : 12 - i ≡ 0 = omega arith in
@@ -188,7 +188,7 @@ slopes-tail sc a s q j n rows x b h g =
     }
 
 -- the slopes filled, in the whole scratch
-pub slopes-lent : (sc : Scene) (c : SceneStruct) (p : PlacesStruct) (s q : List Float) → Arranged c p (length s)
+pub slopes-lent : (sc : Scene) (c : SceneStruct) (p : PartsStruct) (s q : List Float) → Arranged c p (length s)
     → Slopes sc (take (length s - p .x) (drop (p .x) s)) q (p .seen .slopes) (c .n) (c .rows) (p .seen .x) (p .seen .next)
     → Slopes sc s (putMid (p .x) (length s - p .x) s q) (p .slopes) (c .n) (c .rows) (p .x) (p .next)
 slopes-lent sc c p s q at g =
@@ -197,11 +197,11 @@ slopes-lent sc c p s q at g =
     rw (put-tail (p .x) s q h) (rw (at .from-slopes, at .from-x, at .from-next) at (slopes-tail sc (p .x) s q (p .seen .slopes) (c .n) (c .rows) (p .seen .x) (p .seen .next) h r))
 
 -- the matrix formed, in the whole scratch
-pub record Formed (c : SceneStruct) (p : PlacesStruct) (s t : List Float) : Type 0 where
+pub record Formed (c : SceneStruct) (p : PartsStruct) (s t : List Float) : Type 0 where
   pub matrix : matrixIn c p t ≡ normal (slopesIn c p s) (weightsIn c p s) (c .n) (c .rows)
   pub kept : Kept s t (p .matrix) (p .weights)
 
-pub matrix-lent : (c : SceneStruct) (p : PlacesStruct) (s q : List Float) → Arranged c p (length s)
+pub matrix-lent : (c : SceneStruct) (p : PartsStruct) (s q : List Float) → Arranged c p (length s)
     → Matrix (take (length s - p .slopes) (drop (p .slopes) s)) q (c .n) (c .rows) (c .rows * c .n) (c .rows * c .n + c .rows * c .rows)
     → Formed c p s (putMid (p .slopes) (length s - p .slopes) s q)
 matrix-lent c p s q at g =
@@ -219,12 +219,12 @@ matrix-lent c p s q at g =
     })
 
 -- what the filling of slopes is lent is long enough
-pub apart-lent : (c : SceneStruct) (p : PlacesStruct) (s : List Float) → Arranged c p (length s) → Apart c (p .seen) (length (take (length s - p .x) (drop (p .x) s)))
+pub apart-lent : (c : SceneStruct) (p : PartsStruct) (s : List Float) → Arranged c p (length s) → Apart c (p .seen) (length (take (length s - p .x) (drop (p .x) s)))
 apart-lent c p s at =
     let e : length (take (length s - p .x) (drop (p .x) s)) ≡ length s - p .x = length-take-le (length s - p .x) (drop (p .x) s) (simp length-drop (omega arith)) in
     record { x = omega arith; slopes = omega arith; next = omega arith; ahead = omega arith; behind = omega arith; poses = omega arith }
 
-pub matrix-room : (c : SceneStruct) (p : PlacesStruct) (s : List Float) → Arranged c p (length s)
+pub matrix-room : (c : SceneStruct) (p : PartsStruct) (s : List Float) → Arranged c p (length s)
     → c .rows * c .n + c .rows * c .rows + c .n ≤ length (take (length s - p .slopes) (drop (p .slopes) s))
 matrix-room c p s at =
     let e : length (take (length s - p .slopes) (drop (p .slopes) s)) ≡ length s - p .slopes = length-take-le (length s - p .slopes) (drop (p .slopes) s) (simp length-drop (omega arith)) in
@@ -254,7 +254,7 @@ unfolding oneRound
 one-round-is f winv tol s rows n a b =
     λ j. trials f winv tol (jacobian f (s .x) (sym a j)) (normal (jacobian f (s .x) (sym a j)) winv (sym b j) (sym a j)) (sym a j) 12 s
 
-module _ (sc : Scene) (c : SceneStruct) (p : PlacesStruct) (s s1 s2 t : List Float) (cost mu : Float) (r : TriedStruct) (at : Arranged c p (length s))
+module _ (sc : Scene) (c : SceneStruct) (p : PartsStruct) (s s1 s2 t : List Float) (cost mu : Float) (r : TriedStruct) (at : Arranged c p (length s))
     (sloped : Slopes sc s s1 (p .slopes) (c .n) (c .rows) (p .x) (p .next)) (formed : Formed c p s1 s2) (tried : TrialsMade sc c p s2 t cost mu r) where
   -- a part before the slopes, and one behind the matrix and before the copy of the unknowns, is as it was
   same-before : (o k : ℕ) → o + k ≤ p .slopes → part s2 o k ≡ part s o k
@@ -338,26 +338,26 @@ rounds-none f winv tol done s = refl
 -- ---- rounds in memory
 
 -- the rounds from a state, with the weights that s has
-abbrev roundsFrom : Scene → SceneStruct → PlacesStruct → List Float → ℕ → ℕ → State → Outcome
+abbrev roundsFrom : Scene → SceneStruct → PartsStruct → List Float → ℕ → ℕ → State → Outcome
 roundsFrom sc c p s k done w = rounds (rowsOf sc) (weightsIn c p s) ASSEMBLY k done w
 
 -- i rounds were made, each better and none within the tolerance: those left come to what all come to
-pub record Going (sc : Scene) (c : SceneStruct) (p : PlacesStruct) (s t : List Float) (cost mu e d : Float) (i : ℕ) : Type 0 where
+pub record Going (sc : Scene) (c : SceneStruct) (p : PartsStruct) (s t : List Float) (cost mu e d : Float) (i : ℕ) : Type 0 where
   pub keeps : Keeps c p s t
   pub left : roundsFrom sc c p s MAX-ITER 0 (stateIn c p s cost mu) ≡ roundsFrom sc c p s (200 - i) i (stateIn c p t e d)
 
-pub going-start : (sc : Scene) (c : SceneStruct) (p : PlacesStruct) (s : List Float) (cost mu : Float) → Going sc c p s s cost mu cost mu 0
+pub going-start : (sc : Scene) (c : SceneStruct) (p : PartsStruct) (s : List Float) (cost mu : Float) → Going sc c p s s cost mu cost mu 0
 going-start sc c p s cost mu = record { keeps = keeps-refl c p s; left = refl }
 
 -- how a run ended, as the code tells it
 abbrev told : Bool → ℕ → RunEndStruct
 told ok k = record { converged = ok; rounds = k }
 
-ran : (c : SceneStruct) (p : PlacesStruct) (s t : List Float) (o : Outcome) (ok : Bool) (k : ℕ) → o ≡ record { x = unknownsIn c p t; converged = ok; rounds = k } → Keeps c p s t
+ran : (c : SceneStruct) (p : PartsStruct) (s t : List Float) (o : Outcome) (ok : Bool) (k : ℕ) → o ≡ record { x = unknownsIn c p t; converged = ok; rounds = k } → Keeps c p s t
     → Ran c p s t o (told ok k)
 ran c p s t o ok k e h = record { told = sym (ap (λ (w : Outcome). w .converged) e); made = sym (ap (λ (w : Outcome). w .rounds) e); unknowns = sym (ap (λ (w : Outcome). w .x) e); keeps = h }
 
-module _ (sc : Scene) (c : SceneStruct) (p : PlacesStruct) (s t u : List Float) (cost mu e d : Float) (i : ℕ) (r : TriedStruct)
+module _ (sc : Scene) (c : SceneStruct) (p : PartsStruct) (s t u : List Float) (cost mu e d : Float) (i : ℕ) (r : TriedStruct)
     (h : i < 200) (g : Going sc c p s t cost mu e d i) (m : RoundMade sc c p t u e d r) where
   round-is : triedIn c p u r ≡ oneRound (rowsOf sc) (weightsIn c p s) ASSEMBLY (stateIn c p t e d)
   round-is = m .tried ∙ ap (λ (w : List Float). oneRound (rowsOf sc) w ASSEMBLY (stateIn c p t e d)) (g .keeps .weights)
@@ -392,7 +392,7 @@ module _ (sc : Scene) (c : SceneStruct) (p : PlacesStruct) (s t u : List Float) 
             ∙ ap (λ (k : ℕ). roundsFrom sc c p s (200 - (i + 1)) k (stateIn c p u (r .cost) (r .mu))) (sym (add-one i));
       }
 
-pub going-end : (sc : Scene) (c : SceneStruct) (p : PlacesStruct) (s t : List Float) (cost mu e d : Float) (i : ℕ) (ok : Bool) → i ≡ 200 → Going sc c p s t cost mu e d i → ok ≡ withinIn c p t
+pub going-end : (sc : Scene) (c : SceneStruct) (p : PartsStruct) (s t : List Float) (cost mu e d : Float) (i : ℕ) (ok : Bool) → i ≡ 200 → Going sc c p s t cost mu e d i → ok ≡ withinIn c p t
     → Ran c p s t (roundsFrom sc c p s MAX-ITER 0 (stateIn c p s cost mu)) (told ok 200)
 going-end sc c p s t cost mu e d i ok h g w =
     let z : 200 - i ≡ 0 = omega arith in
@@ -432,7 +432,7 @@ module _ (f : List Float → List Float) (winv : List Float) (tol : Float) (most
 
 -- ---- a run in memory
 
-module _ (sc : Scene) (c : SceneStruct) (p : PlacesStruct) (s u : List Float) (at : Arranged c p (length s)) (rows : RowsAt sc s u (p .x) (c .n) (p .rows) (c .rows) (p .poses)) where
+module _ (sc : Scene) (c : SceneStruct) (p : PartsStruct) (s u : List Float) (at : Arranged c p (length s)) (rows : RowsAt sc s u (p .x) (c .n) (p .rows) (c .rows) (p .poses)) where
   -- a part before the rows is as it was
   run-same : (o k : ℕ) → o + k ≤ p .rows → part u o k ≡ part s o k
   run-same o k h = part-below s u _ o k (rows .size) (rows .below) (omega arith)

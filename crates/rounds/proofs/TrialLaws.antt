@@ -18,29 +18,29 @@ use Rattle.scene.specs.Scene.{RowsAt}
 use Rattle.scene.specs.Solve.{Scene, rowsOf}
 use Rattle.scene.specs.declared.scene.Scene.{Scene as SceneStruct}
 use Rattle.least_squares.proofs.MemoryLaws.{take-same, part-below, taken-part, kept-trans, kept-wider, kept-part-below, kept-part-above, kept-tail, tail-part}
-use Rattle.rounds.specs.declared.places.Places.{Places as PlacesStruct}
+use Rattle.rounds.specs.declared.parts.SolveParts.{SolveParts as PartsStruct}
 use Rattle.rounds.specs.declared.trial.Tried.{Tried as TriedStruct}
-use Rattle.rounds.specs.Places.{Arranged}
+use Rattle.rounds.specs.Parts.{Arranged}
 use Rattle.rounds.specs.Rounds.{slopesIn, matrixIn, weightsIn, unknownsIn, rowsIn, stateIn, triedIn, answerIn, Keeps, Leaves, Answered, Advanced, Taken, TrialMade}
 
 -- ---- what is left alone
 
-pub keeps-refl : (c : SceneStruct) (p : PlacesStruct) (s : List Float) → Keeps c p s s
+pub keeps-refl : (c : SceneStruct) (p : PartsStruct) (s : List Float) → Keeps c p s s
 keeps-refl c p s = record { size = refl; weights = refl; first = refl }
 
-pub keeps-trans : (c : SceneStruct) (p : PlacesStruct) (s t u : List Float) → Keeps c p s t → Keeps c p t u → Keeps c p s u
+pub keeps-trans : (c : SceneStruct) (p : PartsStruct) (s t u : List Float) → Keeps c p s t → Keeps c p t u → Keeps c p s u
 keeps-trans c p s t u a b = record { size = b .size ∙ a .size; weights = b .weights ∙ a .weights; first = b .first ∙ a .first }
 
-pub leaves-refl : (c : SceneStruct) (p : PlacesStruct) (s : List Float) → Leaves c p s s
+pub leaves-refl : (c : SceneStruct) (p : PartsStruct) (s : List Float) → Leaves c p s s
 leaves-refl c p s = record { keeps = keeps-refl c p s; slopes = refl; matrix = refl }
 
-pub leaves-trans : (c : SceneStruct) (p : PlacesStruct) (s t u : List Float) → Leaves c p s t → Leaves c p t u → Leaves c p s u
+pub leaves-trans : (c : SceneStruct) (p : PartsStruct) (s t u : List Float) → Leaves c p s t → Leaves c p t u → Leaves c p s u
 leaves-trans c p s t u a b =
     record { keeps = keeps-trans c p s t u (a .keeps) (b .keeps); slopes = b .slopes ∙ a .slopes; matrix = b .matrix ∙ a .matrix }
 
 -- ---- the step taken
 
-pub step-taken : (c : SceneStruct) (p : PlacesStruct) (s u t : List Float) (size : ℕ) → Arranged c p size → Copied s u (p .next) (p .x) (c .n)
+pub step-taken : (c : SceneStruct) (p : PartsStruct) (s u t : List Float) (size : ℕ) → Arranged c p size → Copied s u (p .next) (p .x) (c .n)
     → Copied u t (p .ahead) (p .rows) (c .rows) → Taken c p s t
 step-taken c p s u t size h a b =
     record {
@@ -73,7 +73,7 @@ step-taken c p s u t size h a b =
 pub rest-lent : (a : ℕ) (w q : List Float) (n : ℕ) (ok : Bool) → Dense (take (length w - a) (drop a w)) q n ok → Dense (drop a w) q n ok
 rest-lent a w q n ok h = rw (← length-drop a w, take-length) at h
 
-module _ (c : SceneStruct) (p : PlacesStruct) (s u v w q : List Float) (mu most : Float) (ok : Bool) (size : ℕ) (fits : Arranged c p size) (long : p .damped ≤ length w)
+module _ (c : SceneStruct) (p : PartsStruct) (s u v w q : List Float) (mu most : Float) (ok : Bool) (size : ℕ) (fits : Arranged c p size) (long : p .damped ≤ length w)
     (largest : most ≡ diagMax (matrixIn c p s) (c .rows))
     (copied : Copied s u (p .matrix) (p .damped) (c .rows * c .rows))
     (damped : Damped u v (p .damped) (c .rows) (mul binary64 mu most))
@@ -112,7 +112,7 @@ module _ (c : SceneStruct) (p : PlacesStruct) (s u v w q : List Float) (mu most 
 
 -- ---- a step further
 
-pub advanced : (sc : Scene) (c : SceneStruct) (p : PlacesStruct) (s u t : List Float) (cost : Float) (size : ℕ) → Arranged c p size
+pub advanced : (sc : Scene) (c : SceneStruct) (p : PartsStruct) (s u t : List Float) (cost : Float) (size : ℕ) → Arranged c p size
     → Stepped s u (c .n) (c .rows) (p .x) (p .slopes) (p .weights) (p .right) (p .next)
     → RowsAt sc u t (p .next) (c .n) (p .ahead) (c .rows) (p .poses)
     → cost ≡ norm2 (part t (p .ahead) (c .rows))
@@ -132,16 +132,16 @@ advanced sc c p s u t cost size h a b e =
 -- ---- a trial
 
 -- the state at entry still stands, and what a trial reads
-pub record Stands (c : SceneStruct) (p : PlacesStruct) (s t : List Float) : Type 0 where
+pub record Stands (c : SceneStruct) (p : PartsStruct) (s t : List Float) : Type 0 where
   pub unknowns : unknownsIn c p t ≡ unknownsIn c p s
   pub rows : rowsIn c p t ≡ rowsIn c p s
   pub leaves : Leaves c p s t
 
-stands-trans : (c : SceneStruct) (p : PlacesStruct) (s t u : List Float) → Stands c p s t → Stands c p t u → Stands c p s u
+stands-trans : (c : SceneStruct) (p : PartsStruct) (s t u : List Float) → Stands c p s t → Stands c p t u → Stands c p s u
 stands-trans c p s t u a b =
     record { unknowns = b .unknowns ∙ a .unknowns; rows = b .rows ∙ a .rows; leaves = leaves-trans c p s t u (a .leaves) (b .leaves) }
 
-answered-stands : (c : SceneStruct) (p : PlacesStruct) (s t : List Float) (mu : Float) (ok : Bool) (size : ℕ) → Arranged c p size → Answered c p s t mu ok → Stands c p s t
+answered-stands : (c : SceneStruct) (p : PartsStruct) (s t : List Float) (mu : Float) (ok : Bool) (size : ℕ) → Arranged c p size → Answered c p s t mu ok → Stands c p s t
 answered-stands c p s t mu ok size h a =
     record {
       unknowns = below (p .x) (c .n) (omega arith);
@@ -163,7 +163,7 @@ answered-stands c p s t mu ok size h a =
     above : (o k : ℕ) → p .right + c .rows ≤ o → part t o k ≡ part s o k
     above o k l = kept-part-above s t (p .damped) (p .right + c .rows) o k l (a .kept)
 
-advanced-stands : (sc : Scene) (c : SceneStruct) (p : PlacesStruct) (s t : List Float) (cost : Float) (size : ℕ) → Arranged c p size → Advanced sc c p s t cost → Stands c p s t
+advanced-stands : (sc : Scene) (c : SceneStruct) (p : PartsStruct) (s t : List Float) (cost : Float) (size : ℕ) → Arranged c p size → Advanced sc c p s t cost → Stands c p s t
 advanced-stands sc c p s t cost size h a =
     record {
       unknowns = below (p .x) (c .n) (omega arith);
@@ -205,11 +205,11 @@ second-fails r a b e t h = rw (← e, t, h)
 abbrev stiff : Float → Float → TriedStruct
 stiff cost mu = record { better = false; cost = cost; mu = mul binary64 mu (ofBits binary64 0x4024_0000_0000_0000) }
 
-stiffened : (c : SceneStruct) (p : PlacesStruct) (s t : List Float) (cost mu : Float) → Stands c p s t → triedIn c p t (stiff cost mu) ≡ stiffer (stateIn c p s cost mu)
+stiffened : (c : SceneStruct) (p : PartsStruct) (s t : List Float) (cost mu : Float) → Stands c p s t → triedIn c p t (stiff cost mu) ≡ stiffer (stateIn c p s cost mu)
 stiffened c p s t cost mu h =
     λ j. record { state = record { x = h .unknowns j; r = h .rows j; cost = cost; mu = mul binary64 mu (ofBits binary64 0x4024_0000_0000_0000) }; better = false }
 
-pub no-answer : (sc : Scene) (c : SceneStruct) (p : PlacesStruct) (s t : List Float) (cost mu : Float) (ok : Bool) (size : ℕ) → Arranged c p size → Answered c p s t mu ok → ok ≡ false
+pub no-answer : (sc : Scene) (c : SceneStruct) (p : PartsStruct) (s t : List Float) (cost mu : Float) (ok : Bool) (size : ℕ) → Arranged c p size → Answered c p s t mu ok → ok ≡ false
     → TrialMade sc c p s t cost mu (stiff cost mu)
 unfolding trial stepWith
 no-answer sc c p s t cost mu ok size h a e =
@@ -221,7 +221,7 @@ no-answer sc c p s t cost mu ok size h a e =
       leaves = st .leaves;
     }
 
-module _ (sc : Scene) (c : SceneStruct) (p : PlacesStruct) (s u t : List Float) (cost mu next : Float) (ok : Bool) (size : ℕ) (fits : Arranged c p size)
+module _ (sc : Scene) (c : SceneStruct) (p : PartsStruct) (s u t : List Float) (cost mu next : Float) (ok : Bool) (size : ℕ) (fits : Arranged c p size)
     (answer : Answered c p s u mu ok) (good : ok ≡ true) (far : Advanced sc c p u t next) where
   stands : Stands c p s t
   stands = stands-trans c p s u t (answered-stands c p s u mu ok size fits answer) (advanced-stands sc c p u t next size fits far)

@@ -14,34 +14,34 @@ use Rattle.least_squares.specs.Dense.{given}
 use Rattle.least_squares.specs.Lm.{State, Tried, Outcome, norm2, diagMax, dampTo, solveDense, stepped, trial, trials, oneRound}
 use Rattle.scene.specs.Solve.{Scene, rowsOf}
 use Rattle.scene.specs.declared.scene.Scene.{Scene as SceneStruct}
-use Rattle.rounds.specs.declared.places.Places.{Places as PlacesStruct}
+use Rattle.rounds.specs.declared.parts.SolveParts.{SolveParts as PartsStruct}
 use Rattle.rounds.specs.declared.trial.Tried.{Tried as TriedStruct}
 use Rattle.rounds.specs.declared.rounds.RunEnd.{RunEnd as RunEndStruct}
 
 -- ---- what stands where
 
-abbrev pub slopesIn : SceneStruct → PlacesStruct → List Float → List Float
+abbrev pub slopesIn : SceneStruct → PartsStruct → List Float → List Float
 slopesIn c p s = part s (p .slopes) (c .rows * c .n)
 
-abbrev pub matrixIn : SceneStruct → PlacesStruct → List Float → List Float
+abbrev pub matrixIn : SceneStruct → PartsStruct → List Float → List Float
 matrixIn c p s = part s (p .matrix) (c .rows * c .rows)
 
-abbrev pub weightsIn : SceneStruct → PlacesStruct → List Float → List Float
+abbrev pub weightsIn : SceneStruct → PartsStruct → List Float → List Float
 weightsIn c p s = part s (p .weights) (c .n)
 
-abbrev pub unknownsIn : SceneStruct → PlacesStruct → List Float → List Float
+abbrev pub unknownsIn : SceneStruct → PartsStruct → List Float → List Float
 unknownsIn c p s = part s (p .x) (c .n)
 
-abbrev pub firstIn : SceneStruct → PlacesStruct → List Float → List Float
+abbrev pub firstIn : SceneStruct → PartsStruct → List Float → List Float
 firstIn c p s = part s (p .first) (c .n)
 
-abbrev pub rowsIn : SceneStruct → PlacesStruct → List Float → List Float
+abbrev pub rowsIn : SceneStruct → PartsStruct → List Float → List Float
 rowsIn c p s = part s (p .rows) (c .rows)
 
-abbrev pub stateIn : SceneStruct → PlacesStruct → List Float → Float → Float → State
+abbrev pub stateIn : SceneStruct → PartsStruct → List Float → Float → Float → State
 stateIn c p s cost mu = record { x = unknownsIn c p s; r = rowsIn c p s; cost = cost; mu = mu }
 
-abbrev pub triedIn : SceneStruct → PlacesStruct → List Float → TriedStruct → Tried
+abbrev pub triedIn : SceneStruct → PartsStruct → List Float → TriedStruct → Tried
 triedIn c p s r = record { state = stateIn c p s (r .cost) (r .mu); better = r .better }
 
 -- ---- what a call leaves alone
@@ -49,13 +49,13 @@ triedIn c p s r = record { state = stateIn c p s (r .cost) (r .mu); better = r .
 -- A part of the scratch that a promise below does not speak of is open after the call: nothing reads it before it is written again.
 
 -- the inverse weights, and the unknowns of the first run
-pub record Keeps (c : SceneStruct) (p : PlacesStruct) (s t : List Float) : Type 0 where
+pub record Keeps (c : SceneStruct) (p : PartsStruct) (s t : List Float) : Type 0 where
   pub size : length t ≡ length s
   pub weights : weightsIn c p t ≡ weightsIn c p s
   pub first : firstIn c p t ≡ firstIn c p s
 
 -- these, the slopes and the matrix
-pub record Leaves (c : SceneStruct) (p : PlacesStruct) (s t : List Float) : Type 0 where
+pub record Leaves (c : SceneStruct) (p : PartsStruct) (s t : List Float) : Type 0 where
   pub keeps : Keeps c p s t
   pub slopes : slopesIn c p t ≡ slopesIn c p s
   pub matrix : matrixIn c p t ≡ matrixIn c p s
@@ -63,19 +63,19 @@ pub record Leaves (c : SceneStruct) (p : PlacesStruct) (s t : List Float) : Type
 -- ---- one trial
 
 -- the answer of the equations, the matrix damped by mu of its largest diagonal entry
-abbrev pub answerIn : SceneStruct → PlacesStruct → List Float → Float → Option (List Float)
+abbrev pub answerIn : SceneStruct → PartsStruct → List Float → Float → Option (List Float)
 answerIn c p s mu =
     let a = matrixIn c p s in
     solveDense (dampTo a (c .rows) (mul binary64 mu (diagMax a (c .rows))) (c .rows)) (rowsIn c p s) (c .rows)
 
 -- the equations solved: ok says whether there is an answer, and then it stands at `right`
-pub record Answered (c : SceneStruct) (p : PlacesStruct) (s t : List Float) (mu : Float) (ok : Bool) : Type 0 where
+pub record Answered (c : SceneStruct) (p : PartsStruct) (s t : List Float) (mu : Float) (ok : Bool) : Type 0 where
   pub told : ok ≡ given (answerIn c p s mu)
   pub answer : (y : List Float) → answerIn c p s mu ≡ some y → part t (p .right) (c .rows) ≡ y
   pub kept : Kept s t (p .damped) (p .right + c .rows)
 
 -- the unknowns after the step at `next`, their rows at `ahead`, and the sum of these rows' squares
-pub record Advanced (sc : Scene) (c : SceneStruct) (p : PlacesStruct) (s t : List Float) (cost : Float) : Type 0 where
+pub record Advanced (sc : Scene) (c : SceneStruct) (p : PartsStruct) (s t : List Float) (cost : Float) : Type 0 where
   pub size : length t ≡ length s
   pub unknowns : part t (p .next) (c .n) ≡ stepped (unknownsIn c p s) (slopesIn c p s) (weightsIn c p s) (part s (p .right) (c .rows)) (c .rows)
   pub rows : part t (p .ahead) (c .rows) ≡ rowsOf sc (part t (p .next) (c .n))
@@ -83,32 +83,32 @@ pub record Advanced (sc : Scene) (c : SceneStruct) (p : PlacesStruct) (s t : Lis
   pub below : take (p .next) t ≡ take (p .next) s
 
 -- the step taken: what stood at `next` and `ahead` is now the state
-pub record Taken (c : SceneStruct) (p : PlacesStruct) (s t : List Float) : Type 0 where
+pub record Taken (c : SceneStruct) (p : PartsStruct) (s t : List Float) : Type 0 where
   pub unknowns : unknownsIn c p t ≡ part s (p .next) (c .n)
   pub rows : rowsIn c p t ≡ part s (p .ahead) (c .rows)
   pub leaves : Leaves c p s t
 
-pub record TrialMade (sc : Scene) (c : SceneStruct) (p : PlacesStruct) (s t : List Float) (cost mu : Float) (r : TriedStruct) : Type 0 where
+pub record TrialMade (sc : Scene) (c : SceneStruct) (p : PartsStruct) (s t : List Float) (cost mu : Float) (r : TriedStruct) : Type 0 where
   pub tried : triedIn c p t r ≡ trial (rowsOf sc) (weightsIn c p s) ASSEMBLY (slopesIn c p s) (matrixIn c p s) (c .rows) (stateIn c p s cost mu)
   pub leaves : Leaves c p s t
 
 -- at most 12 trials
-pub record TrialsMade (sc : Scene) (c : SceneStruct) (p : PlacesStruct) (s t : List Float) (cost mu : Float) (r : TriedStruct) : Type 0 where
+pub record TrialsMade (sc : Scene) (c : SceneStruct) (p : PartsStruct) (s t : List Float) (cost mu : Float) (r : TriedStruct) : Type 0 where
   pub tried : triedIn c p t r ≡ trials (rowsOf sc) (weightsIn c p s) ASSEMBLY (slopesIn c p s) (matrixIn c p s) (c .rows) 12 (stateIn c p s cost mu)
   pub leaves : Leaves c p s t
 
 -- ---- rounds and runs
 
 -- the rows at `rows` are all within the tolerance
-abbrev pub withinIn : SceneStruct → PlacesStruct → List Float → Bool
+abbrev pub withinIn : SceneStruct → PartsStruct → List Float → Bool
 withinIn c p s = le (maxAbs (rowsIn c p s)) ASSEMBLY
 
-pub record RoundMade (sc : Scene) (c : SceneStruct) (p : PlacesStruct) (s t : List Float) (cost mu : Float) (r : TriedStruct) : Type 0 where
+pub record RoundMade (sc : Scene) (c : SceneStruct) (p : PartsStruct) (s t : List Float) (cost mu : Float) (r : TriedStruct) : Type 0 where
   pub tried : triedIn c p t r ≡ oneRound (rowsOf sc) (weightsIn c p s) ASSEMBLY (stateIn c p s cost mu)
   pub keeps : Keeps c p s t
 
 -- a run has ended as o says: its unknowns stand at `x`, and e says whether it converged and how many rounds were made
-pub record Ran (c : SceneStruct) (p : PlacesStruct) (s t : List Float) (o : Outcome) (e : RunEndStruct) : Type 0 where
+pub record Ran (c : SceneStruct) (p : PartsStruct) (s t : List Float) (o : Outcome) (e : RunEndStruct) : Type 0 where
   pub told : e .converged ≡ o .converged
   pub made : e .rounds ≡ o .rounds
   pub unknowns : unknownsIn c p t ≡ o .x

@@ -1,4 +1,4 @@
 // `solve` of lm.rs over lent scratch: trials, rounds, one run.
-pub mod places;
+pub mod parts;
 pub mod rounds;
 pub mod trial;

@@ -7,9 +7,9 @@ ghost use Rattle.vectors.specs.Tol as tolerances;
 ghost use Rattle.least_squares.specs.Lm as lm;
 ghost use Rattle.scene.specs.Solve as definitions;
 ghost use Rattle.scene.specs.Scene.{Laid, sceneOf};
-ghost use Rattle.rounds.specs.Places.{Arranged};
+ghost use Rattle.rounds.specs.Parts.{Arranged};
 ghost use Rattle.rounds.specs.Rounds as spec;
-use crate::places::Places;
+use crate::parts::SolveParts;
 use crate::trial::Tried;
 use crate::trial::largest;
 use crate::trial::squares;
@@ -17,7 +17,7 @@ use crate::trial::trial;
 use least_squares::lm::matrix;
 use scene::scene::Scene;
 use scene::scene::rows_at;
-use slopes::near_slopes::slopes;
+use slopes::anew_slopes::slopes;
 use vectors::tol;
 
 // How a run ended: whether it converged, and how many rounds were made.
@@ -27,7 +27,7 @@ pub struct RunEnd {
 }
 
 // At most 12 trials, up to the first that is better.
-fn trials(sheet: &[u8], scene: Scene, s: &mut [f64], p: Places, cost: f64, mu: f64) -> Tried
+fn trials(sheet: &[u8], scene: Scene, s: &mut [f64], p: SolveParts, cost: f64, mu: f64) -> Tried
     requires { ⌜ Laid (now sheet) scene ⌝ }
     requires { ⌜ Arranged scene p (length (now s)) ⌝ }
     requires { ⌜ (scene .rows ≤ 800) × (scene .n ≤ 384) ⌝ }
@@ -49,7 +49,7 @@ fn trials(sheet: &[u8], scene: Scene, s: &mut [f64], p: Places, cost: f64, mu: f
 }
 
 // The slopes, the matrix, and at most 12 trials. The filling of slopes is lent the scratch from the unknowns on, the forming of the matrix from the slopes on.
-fn one_round(sheet: &[u8], scene: Scene, s: &mut [f64], p: Places, cost: f64, mu: f64) -> Tried
+fn one_round(sheet: &[u8], scene: Scene, s: &mut [f64], p: SolveParts, cost: f64, mu: f64) -> Tried
     requires { ⌜ Laid (now sheet) scene ⌝ }
     requires { ⌜ Arranged scene p (length (now s)) ⌝ }
     requires { ⌜ (scene .rows ≤ 800) × (scene .n ≤ 384) ⌝ }
@@ -63,7 +63,7 @@ fn one_round(sheet: &[u8], scene: Scene, s: &mut [f64], p: Places, cost: f64, mu
 }
 
 // Whether the rows at `rows` are all within the tolerance.
-fn within(s: &[f64], scene: Scene, p: Places) -> bool
+fn within(s: &[f64], scene: Scene, p: SolveParts) -> bool
     requires { ⌜ Arranged scene p (length (now s)) ⌝ }
     ensures { λ r. ⌜ r ≡ spec.withinIn scene p (now (s .entry)) ⌝ }
 {
@@ -71,7 +71,7 @@ fn within(s: &[f64], scene: Scene, p: Places) -> bool
 }
 
 // At most 200 rounds. A run ends where its rows are within the tolerance, or a round brings nothing better.
-fn rounds(sheet: &[u8], scene: Scene, s: &mut [f64], p: Places, cost: f64, mu: f64) -> RunEnd
+fn rounds(sheet: &[u8], scene: Scene, s: &mut [f64], p: SolveParts, cost: f64, mu: f64) -> RunEnd
     requires { ⌜ Laid (now sheet) scene ⌝ }
     requires { ⌜ Arranged scene p (length (now s)) ⌝ }
     requires { ⌜ (scene .rows ≤ 800) × (scene .n ≤ 384) ⌝ }
@@ -104,7 +104,7 @@ fn rounds(sheet: &[u8], scene: Scene, s: &mut [f64], p: Places, cost: f64, mu: f
 }
 
 // A run from the unknowns at `x`, with the damping 1e-10 at first; over 800 rows there are no rounds.
-pub fn run(sheet: &[u8], scene: Scene, s: &mut [f64], p: Places) -> RunEnd
+pub fn run(sheet: &[u8], scene: Scene, s: &mut [f64], p: SolveParts) -> RunEnd
     requires { ⌜ Laid (now sheet) scene ⌝ }
     requires { ⌜ Arranged scene p (length (now s)) ⌝ }
     requires { ⌜ scene .n ≤ 384 ⌝ }

@@ -7,9 +7,9 @@ ghost use Rattle.numbers.specs.MaxAbs.{maxAbs};
 ghost use Rattle.least_squares.specs.Lm as lm;
 ghost use Rattle.least_squares.specs.Memory.{part};
 ghost use Rattle.scene.specs.Scene.{Laid, sceneOf};
-ghost use Rattle.rounds.specs.Places.{Arranged};
+ghost use Rattle.rounds.specs.Parts.{Arranged};
 ghost use Rattle.rounds.specs.Rounds as spec;
-use crate::places::Places;
+use crate::parts::SolveParts;
 use least_squares::dense::solve_dense;
 use least_squares::lm::copy;
 use least_squares::lm::damp;
@@ -51,7 +51,7 @@ fn softer(mu: f64) -> f64
 }
 
 // The equations of a step, their matrix damped by mu of its largest diagonal entry, solved. Whether there is an answer.
-fn answer(s: &mut [f64], scene: Scene, p: Places, mu: f64) -> bool
+fn answer(s: &mut [f64], scene: Scene, p: SolveParts, mu: f64) -> bool
     requires { ⌜ Arranged scene p (length (now s)) ⌝ }
     requires { ⌜ scene .rows ≤ 800 ⌝ }
     ensures { λ ok. ⌜ spec.Answered scene p (now (s .entry)) (now (s .exit)) mu ok ⌝ }
@@ -66,7 +66,7 @@ fn answer(s: &mut [f64], scene: Scene, p: Places, mu: f64) -> bool
 }
 
 // The unknowns a step further, their rows, and the sum of these rows' squares.
-fn advance(sheet: &[u8], scene: Scene, s: &mut [f64], p: Places) -> f64
+fn advance(sheet: &[u8], scene: Scene, s: &mut [f64], p: SolveParts) -> f64
     requires { ⌜ Laid (now sheet) scene ⌝ }
     requires { ⌜ Arranged scene p (length (now s)) ⌝ }
     requires { ⌜ (scene .rows ≤ 800) × (scene .n ≤ 384) ⌝ }
@@ -79,7 +79,7 @@ fn advance(sheet: &[u8], scene: Scene, s: &mut [f64], p: Places) -> f64
 }
 
 // The step taken.
-fn take_step(s: &mut [f64], scene: Scene, p: Places)
+fn take_step(s: &mut [f64], scene: Scene, p: SolveParts)
     requires { ⌜ Arranged scene p (length (now s)) ⌝ }
     ensures { λ _. ⌜ spec.Taken scene p (now (s .entry)) (now (s .exit)) ⌝ }
 {
@@ -88,7 +88,7 @@ fn take_step(s: &mut [f64], scene: Scene, p: Places)
 }
 
 // One trial, from the sum of squares and the damping so far.
-pub fn trial(sheet: &[u8], scene: Scene, s: &mut [f64], p: Places, cost: f64, mu: f64) -> Tried
+pub fn trial(sheet: &[u8], scene: Scene, s: &mut [f64], p: SolveParts, cost: f64, mu: f64) -> Tried
     requires { ⌜ Laid (now sheet) scene ⌝ }
     requires { ⌜ Arranged scene p (length (now s)) ⌝ }
     requires { ⌜ (scene .rows ≤ 800) × (scene .n ≤ 384) ⌝ }

@@ -18,8 +18,8 @@ ghost use Rattle.scene.specs.Scene as spec;
 use judging::count::row_count;
 use records::record;
 use relations::model::Body;
+use relations::model::BodyRef;
 use relations::model::Law;
-use relations::model::Place;
 use relations::model::Pose;
 use relations::model::Rel;
 use relations::rows::Rows;
@@ -153,13 +153,13 @@ pub fn poses_at(sheet: &[u8], scene: Scene, s: &mut [f64], x: usize, p: usize)
 }
 
 // The pose of an end's body, the poses of m bodies standing from p on; the ground's for an end that names none.
-fn end_pose(s: &[f64], p: usize, m: usize, place: Place) -> Pose
+fn end_pose(s: &[f64], p: usize, m: usize, place: BodyRef) -> Pose
     requires { ⌜ p + 12 * m ≤ length (now s) ⌝ }
     ensures { λ q. ⌜ pose q ≡ solve.endPose (spec.posesIn (now (s .entry)) p m) (bodyNumber place) ⌝ }
 {
     match place {
-        Place::Ground => Pose::GROUND,
-        Place::Of(i) => {
+        BodyRef::Ground => Pose::GROUND,
+        BodyRef::Of(i) => {
             if i < m {
                 pose_at(s, p + 12 * i)
             } else {
@@ -170,31 +170,31 @@ fn end_pose(s: &[f64], p: usize, m: usize, place: Place) -> Pose
 }
 
 // What symmetry's plane belongs to.
-fn plane_place(law: Law) -> Place
+fn plane_body(law: Law) -> BodyRef
     ensures { λ r. ⌜ bodyNumber r ≡ solve.planeBody (lawOf law) ⌝ }
 {
     match law {
-        Law::Mate { offset: _ } => Place::Ground,
-        Law::Flush { offset: _ } => Place::Ground,
+        Law::Mate { offset: _ } => BodyRef::Ground,
+        Law::Flush { offset: _ } => BodyRef::Ground,
         Law::Angle {
             angle: _,
             reference: _,
-        } => Place::Ground,
+        } => BodyRef::Ground,
         Law::Insert {
             offset: _,
             aligned: _,
-        } => Place::Ground,
+        } => BodyRef::Ground,
         Law::Tangent {
             offset: _,
             inside: _,
-        } => Place::Ground,
+        } => BodyRef::Ground,
         Law::Symmetry { plane } => plane.body,
         Law::Joint {
             joint: _,
             flip: _,
             offset: _,
             angle: _,
-        } => Place::Ground,
+        } => BodyRef::Ground,
     }
 }
 
@@ -210,7 +210,7 @@ pub fn rel_rows(s: &[f64], p: usize, m: usize, rel: Rel) -> Rows
     let pb = b.body;
     let qa = end_pose(s, p, m, pa);
     let qb = end_pose(s, p, m, pb);
-    let qs = end_pose(s, p, m, plane_place(law));
+    let qs = end_pose(s, p, m, plane_body(law));
     residual(rel, qa, qb, qs)
 }
 
@@ -290,12 +290,12 @@ pub fn half_size(size: f64) -> f64
 }
 
 // 1e4 for the dragged body.
-fn drag_factor(drag: Place, i: usize) -> f64
+fn drag_factor(drag: BodyRef, i: usize) -> f64
     ensures { λ r. ⌜ r ≡ solve.dragFactor (bodyNumber drag) i ⌝ }
 {
     match drag {
-        Place::Ground => 1.0,
-        Place::Of(d) => if d == i { 1e4 } else { 1.0 },
+        BodyRef::Ground => 1.0,
+        BodyRef::Of(d) => if d == i { 1e4 } else { 1.0 },
     }
 }
 
@@ -327,7 +327,14 @@ fn put_six(s: &mut [f64], o: usize, scale: f64, half: f64)
 }
 
 // The inverse weights of body i to the places from `at` on; the place behind them.
-fn put_weights(sheet: &[u8], scene: Scene, s: &mut [f64], at: usize, drag: Place, i: usize) -> usize
+fn put_weights(
+    sheet: &[u8],
+    scene: Scene,
+    s: &mut [f64],
+    at: usize,
+    drag: BodyRef,
+    i: usize,
+) -> usize
     requires { ⌜ spec.Laid (now sheet) scene ⌝ }
     requires { ⌜ i < scene .m ⌝ }
     requires { ⌜ at + length (spec.inverseAt (now sheet) scene (bodyNumber drag) i) ≤ length (now s) ⌝ }
@@ -343,7 +350,7 @@ fn put_weights(sheet: &[u8], scene: Scene, s: &mut [f64], at: usize, drag: Place
 }
 
 // 1 over each unknown's weight, to the places from w on; `drag` is the dragged body.
-pub fn inverse_weights(sheet: &[u8], scene: Scene, s: &mut [f64], w: usize, drag: Place)
+pub fn inverse_weights(sheet: &[u8], scene: Scene, s: &mut [f64], w: usize, drag: BodyRef)
     requires { ⌜ spec.Laid (now sheet) scene ⌝ }
     requires { ⌜ w + scene .n ≤ length (now s) ⌝ }
     ensures { λ _. ⌜ spec.Put (now (s .entry)) (now (s .exit)) w (scene .n) (map lm.inverseWeight (solve.weights (spec.sceneOf (now (sheet .entry)) scene) (bodyNumber drag))) ⌝ }
@@ -356,12 +363,12 @@ pub fn inverse_weights(sheet: &[u8], scene: Scene, s: &mut [f64], w: usize, drag
 }
 
 // Whether an end belongs to body i.
-fn is_body(place: Place, i: usize) -> bool
+fn is_body(place: BodyRef, i: usize) -> bool
     ensures { λ r. ⌜ r ≡ solve.isBody (bodyNumber place) i ⌝ }
 {
     match place {
-        Place::Ground => false,
-        Place::Of(k) => k == i,
+        BodyRef::Ground => false,
+        BodyRef::Of(k) => k == i,
     }
 }
 
@@ -380,7 +387,7 @@ pub fn names(rel: Rel, i: usize) -> bool
     if is_body(pb, i) {
         return true;
     }
-    is_body(plane_place(law), i)
+    is_body(plane_body(law), i)
 }
 
 fn named(sheet: &[u8], rels: usize, k: usize, i: usize) -> bool

@@ -15,7 +15,7 @@ use Rattle.vectors.specs.Vec.{Vec}
 use Rattle.relations.specs.Model.{Rel}
 use Rattle.records.specs.Numbers.{lawNumber, primNumber}
 use Rattle.records.specs.Record.{byteAt, doubleAt, vecAt, primAt, endAt, lawBy, relAt}
-use Rattle.records.specs.Limits.{NEAR-ONE, THOUSAND, within, withinV}
+use Rattle.records.specs.Limits.{UNIT-LIMIT, THOUSAND, within, withinV}
 use Rattle.records.proofs.NumberLaws.{each-case}
 use Rattle.scene.specs.Scene.{sceneIn}
 use Rattle.closeness.specs.RowBound.{smallGeo, smallEnd, smallLaw, smallRel}
@@ -31,30 +31,30 @@ both : (a b : Bool) → T a → T b → T (a && b)
 both true b s t = t
 both false b s t = absurd s
 
-prim-small : (n : ℕ) (p d : Vec Float) (r : Float) → T (withinV THOUSAND p) → T (withinV NEAR-ONE d) → T (within THOUSAND r) → T (smallGeo (primAt n p d r))
+prim-small : (n : ℕ) (p d : Vec Float) (r : Float) → T (withinV THOUSAND p) → T (withinV UNIT-LIMIT d) → T (within THOUSAND r) → T (smallGeo (primAt n p d r))
 unfolding primAt smallGeo
 prim-small n p d r h k l =
-    let two = both (withinV THOUSAND p) (withinV NEAR-ONE d) h k in
-    let three = both (withinV THOUSAND p) _ h (both (withinV NEAR-ONE d) (within THOUSAND r) k l) in
+    let two = both (withinV THOUSAND p) (withinV UNIT-LIMIT d) h k in
+    let three = both (withinV THOUSAND p) _ h (both (withinV UNIT-LIMIT d) (within THOUSAND r) k l) in
     each-case primNumber n (λ g. T (smallGeo g)) _ _ ((λ q. two), ((λ q. two), ((λ q. h), three)))
 
 end-small : (s : List ℕ) (e : ℕ) → T (endLimits s e) → T (smallEnd (endAt s e))
 unfolding endLimits smallEnd endAt
 end-small s e t =
     let t1 = and-r (withinV THOUSAND (vecAt s (e + 8))) _ t in
-    let t2 = and-r (withinV NEAR-ONE (vecAt s (e + 32))) _ t1 in
+    let t2 = and-r (withinV UNIT-LIMIT (vecAt s (e + 32))) _ t1 in
     both (smallGeo (endAt s e .prim)) (within THOUSAND (doubleAt s (e + 64)))
     (prim-small (byteAt s e) (vecAt s (e + 8)) (vecAt s (e + 32)) (doubleAt s (e + 56)) (and-l (withinV THOUSAND (vecAt s (e + 8))) _ t)
-    (and-l (withinV NEAR-ONE (vecAt s (e + 32))) _ t1)
+    (and-l (withinV UNIT-LIMIT (vecAt s (e + 32))) _ t1)
     (and-l (within THOUSAND (doubleAt s (e + 56))) _ t2))
     (and-r (within THOUSAND (doubleAt s (e + 56))) _ t2)
 
 module _ (s : List ℕ) (r : ℕ) where
-  law-small : (n : ℕ) → T (within THOUSAND (doubleAt s (r + 8))) → T (within THOUSAND (doubleAt s (r + 16))) → T (withinV NEAR-ONE (vecAt s (r + 24))) → T (smallEnd (endAt s (r + 192)))
+  law-small : (n : ℕ) → T (within THOUSAND (doubleAt s (r + 8))) → T (within THOUSAND (doubleAt s (r + 16))) → T (withinV UNIT-LIMIT (vecAt s (r + 24))) → T (smallEnd (endAt s (r + 192)))
       → T (smallLaw (lawBy n s r))
   unfolding lawBy smallLaw
   law-small n off want reference p =
-      let turned = both (within THOUSAND (doubleAt s (r + 16))) (withinV NEAR-ONE (vecAt s (r + 24))) want reference in
+      let turned = both (within THOUSAND (doubleAt s (r + 16))) (withinV UNIT-LIMIT (vecAt s (r + 24))) want reference in
       let joined = both (within THOUSAND (doubleAt s (r + 8))) (within THOUSAND (doubleAt s (r + 16))) off want in
       each-case lawNumber n (λ l. T (smallLaw l)) _ _ ((λ q. off), ((λ q. off), ((λ q. turned), ((λ q. off), ((λ q. off), ((λ q. p), joined))))))
 
@@ -64,13 +64,13 @@ module _ (s : List ℕ) (r : ℕ) where
       let t : T (relLimits s r) = subst (λ (b : Bool). T b) (sym h) tt in
       let t1 = and-r (within THOUSAND (doubleAt s (r + 8))) _ t in
       let t2 = and-r (within THOUSAND (doubleAt s (r + 16))) _ t1 in
-      let t3 = and-r (withinV NEAR-ONE (vecAt s (r + 24))) _ t2 in
+      let t3 = and-r (withinV UNIT-LIMIT (vecAt s (r + 24))) _ t2 in
       let t4 = and-r (endLimits s (r + 48)) _ t3 in
       is-true (smallRel (relAt s r))
       (both (smallLaw (lawBy (byteAt s r) s r)) _
       (law-small (byteAt s r) (and-l (within THOUSAND (doubleAt s (r + 8))) _ t)
       (and-l (within THOUSAND (doubleAt s (r + 16))) _ t1)
-      (and-l (withinV NEAR-ONE (vecAt s (r + 24))) _ t2) (end-small s (r + 192) (and-r (endLimits s (r + 120)) _ t4)))
+      (and-l (withinV UNIT-LIMIT (vecAt s (r + 24))) _ t2) (end-small s (r + 192) (and-r (endLimits s (r + 120)) _ t4)))
       (both (smallEnd (endAt s (r + 48))) (smallEnd (endAt s (r + 120))) (end-small s (r + 48) (and-l (endLimits s (r + 48)) _ t3)) (end-small s (r + 120) (and-l (endLimits s (r + 120)) _ t4))))
 
 -- ---- every relation of the sheet

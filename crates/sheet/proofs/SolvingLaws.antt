@@ -16,7 +16,7 @@ use Rattle.scene.specs.Scene.{Laid, SceneMade, sceneOf}
 use Rattle.scene.specs.declared.scene.Scene.{Scene as SceneStruct}
 use Rattle.placement.specs.Answer.{Filled}
 use Rattle.closeness.proofs.HowCloselyLaws.{how-closely, rounds-end}
-use Rattle.rounds.specs.Places.{need}
+use Rattle.rounds.specs.Parts.{need}
 use Rattle.format.specs.Format.{bodiesOf, relationsOf}
 use Rattle.refusals.specs.SceneAt.{sceneAt}
 use Rattle.format.specs.Faults.{unless, sheetFault}

@@ -8,7 +8,7 @@ use judging::judge::judge;
 use records::record::body_at;
 use records::record::rel_at;
 use records::record::u16_at;
-use relations::model::Place;
+use relations::model::BodyRef;
 use relations::model::Pose;
 use relations::model::Rel;
 use scene::scene::put_pose;
@@ -53,13 +53,13 @@ fn relation_of(s: &[u8], relation: u16) -> Rel
     rel_at(s, 24 + 136 * m + 264 * j)
 }
 
-fn pose_in(s: &[u8], p: Place) -> Pose
+fn pose_in(s: &[u8], p: BodyRef) -> Pose
     requires { ⌜ relStart (bodiesOf (now s)) 0 ≤ length (now s) ⌝ }
     ensures { λ r. ⌜ pose r ≡ calls.poseIn (now (s .entry)) (bodyNumber p) ⌝ }
 {
     match p {
-        Place::Ground => Pose::GROUND,
-        Place::Of(i) => {
+        BodyRef::Ground => Pose::GROUND,
+        BodyRef::Of(i) => {
             let m = u16_at(s, 2) as usize;
             if i < m {
                 let b = body_at(s, 24 + 136 * i);
@@ -71,13 +71,13 @@ fn pose_in(s: &[u8], p: Place) -> Pose
     }
 }
 
-fn center_in(s: &[u8], p: Place) -> Vec3
+fn center_in(s: &[u8], p: BodyRef) -> Vec3
     requires { ⌜ relStart (bodiesOf (now s)) 0 ≤ length (now s) ⌝ }
     ensures { λ r. ⌜ vec r ≡ calls.centerIn (now (s .entry)) (bodyNumber p) ⌝ }
 {
     match p {
-        Place::Ground => Vec3::ZERO,
-        Place::Of(i) => {
+        BodyRef::Ground => Vec3::ZERO,
+        BodyRef::Of(i) => {
             let m = u16_at(s, 2) as usize;
             if i < m {
                 let b = body_at(s, 24 + 136 * i);

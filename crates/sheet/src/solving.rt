@@ -4,20 +4,20 @@
 use placement::solve::solve;
 use refusals::figures::scene_in;
 use refusals::lent::solve_fault;
-use relations::model::Place;
+use relations::model::BodyRef;
 ghost use mathlib.Core.Path.{_≡_};
 ghost use Rattle.relations.specs.Model.{bodyNumber};
 ghost use Rattle.records.specs.Numbers.{flagNumber};
 ghost use Rattle.sheet.specs.Solving as solving;
 
 // The dragged body; 65535 is none.
-fn drag_place(drag: u16) -> Place
+fn drag_body(drag: u16) -> BodyRef
     ensures { λ r. ⌜ bodyNumber r ≡ solving.dragOf drag ⌝ }
 {
     if drag == 0xFFFF {
-        return Place::Ground;
+        return BodyRef::Ground;
     }
-    Place::Of(drag as usize)
+    BodyRef::Of(drag as usize)
 }
 
 // A flag as a byte.
@@ -50,7 +50,7 @@ pub extern "C" fn sheet_solve(
     );
     if number == 0 {
         let scene = scene_in(sheet);
-        let place = drag_place(drag);
+        let place = drag_body(drag);
         let ok = solve(sheet, scene, scratch, place, poses, frames, errors);
         *converged = flag(ok);
         return 0;

@@ -1,2 +1,2 @@
 pub mod SlopeLaws
-pub mod NearLaws
+pub mod AnewLaws

@@ -1,1 +1,1 @@
-pub mod NearSlopes
+pub mod AnewSlopes

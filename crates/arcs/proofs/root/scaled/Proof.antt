@@ -1,4 +1,4 @@
--- `arcs::root::scaled` meets its contract. n has z leading zeros in a word, at least 11, so s = z - 11 more places make it a number of 53 digits; one place more makes what is left of the exponent
+-- `arcs::root::scaled` meets its contract. n has z leading zeros in a word, at least 11, so s = z - 11 more zeros make it a number of 53 digits; one place more makes what is left of the exponent
 -- even. Assumes nothing.
 use Prim.Native.Nat.{ℕ, suc, _+_, _-_, _*_, _%_, _^_, _≤_, _<_}
 use mathlib.Core.Path.{_≡_, sym, ap, _∙_}
@@ -10,15 +10,15 @@ use Rattle.arcs.specs.RootSteps.{Even}
 use Rattle.arcs.proofs.root.scaled.Statement.{statement}
 use Rattle.arcs.proofs.root.scaled.Tie as tie
 
--- n, with z leading zeros in a word, has 53 digits once z - 11 places are added
-record Places (n z : ℕ) : Type 0 where
+-- n, with z leading zeros in a word, has 53 digits once z - 11 zeros are added
+record Zeros (n z : ℕ) : Type 0 where
   least : 11 ≤ z
   most : z ≤ 63
   low : 2 ^ 52 ≤ n * 2 ^ (z - 11)
   high : n * 2 ^ (z - 11) < 2 ^ 53
 
-places-at : (n z j : ℕ) → n < 2 ^ 53 → z + suc j ≡ 64 → 2 ^ j ≤ n → n < 2 ^ suc j → Places n z
-places-at n z j h e lo hi =
+zeros-at : (n z j : ℕ) → n < 2 ^ 53 → z + suc j ≡ 64 → 2 ^ j ≤ n → n < 2 ^ suc j → Zeros n z
+zeros-at n z j h e lo hi =
     let top : j < 53 = lt-of-not-le (λ (g : 53 ≤ j). not-le-of-lt (lt-of-le-of-lt lo h) (pow-mono g)) in
     let up-to : j + (z - 11) ≡ 52 = omega arith in
     let past : suc j + (z - 11) ≡ 53 = omega arith in
@@ -31,12 +31,12 @@ places-at n z j h e lo hi =
       high = lt-of-lt-of-le (mul-lt-mul-of-pos-right hi (pow-pos (z - 11))) (le-of-eq to-53);
     }
 
-places : (n : ℕ) → 0 < n → n < 2 ^ 53 → Places n (leadingZeros 64 n)
-places n p h =
+zeros : (n : ℕ) → 0 < n → n < 2 ^ 53 → Zeros n (leadingZeros 64 n)
+zeros n p h =
     let t = leading-top 64 n p (lt-of-lt-of-le h (pow-mono {i = 53} {j = 64} (omega arith))) in
-    places-at n (leadingZeros 64 n) (t .0) h (t .1) (t .2) (t .3)
+    zeros-at n (leadingZeros 64 n) (t .0) h (t .1) (t .2) (t .3)
 
--- d places more, 0 or 1
+-- d zeros more, 0 or 1
 even : (n e s d k : ℕ) → 2 ^ 52 ≤ n * 2 ^ s → n * 2 ^ s < 2 ^ 53 → d ≤ 1 → s + d + (52 + (k + k)) ≡ e → k ≤ 1533 → Even n e (n * 2 ^ (s + d) % 2 ^ 64) k
 even n e s d k lo hi one sum short =
     let apart : n * 2 ^ (s + d) ≡ n * 2 ^ s * 2 ^ d = rw (pow-add 2 s d) (sym (mul-assoc n (2 ^ s) (2 ^ d))) in
@@ -49,8 +49,8 @@ even n e s d k lo hi one sum short =
     rw (mod-eq-of-lt {n = n * 2 ^ (s + d)} {m = 2 ^ 64} (omega arith)) (record { same = same; low = low; high = high; short = short })
 
 module _ (c : tie.Start) where
-  at : Places (c .args .n) (leadingZeros 64 (c .args .n))
-  at = places (c .args .n) (c .pre .0) (c .pre .1)
+  at : Zeros (c .args .n) (leadingZeros 64 (c .args .n))
+  at = zeros (c .args .n) (c .pre .0) (c .pre .1)
 
 cast-s : tie.Need-cast-s
 cast-s c = omega (arith, at c)

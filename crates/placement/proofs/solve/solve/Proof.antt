@@ -5,20 +5,20 @@ use native.Mathlib.Omega.{arith}
 use borrow.Author.Needs.{needs}
 use Rattle.relations.specs.Model.{bodyNumber}
 use lib.ListN.{length}
-use Rattle.rounds.specs.Places.{Arranged}
+use Rattle.rounds.specs.Parts.{Arranged}
 use Rattle.rounds.proofs.RoundLaws.{arranged-as}
 use Rattle.placement.proofs.SolveLaws.{filled-is}
 use Rattle.placement.proofs.solve.solve.Statement.{statement}
 use Rattle.placement.proofs.solve.solve.Tie as tie
 
 -- where the parts of the scratch stand
-placed : (c : tie.After-arrange) → let g = c .before .before .before .before .before .before .args in Arranged (g .scene) (c .arrange .result) (length (g .s .now))
+placed : (c : tie.After-solve-parts) → let g = c .before .before .before .before .before .before .args in Arranged (g .scene) (c .solve-parts .result) (length (g .s .now))
 placed c =
     let o = c .before .before .before .before .before .before in
-    arranged-as (o .args .scene) (c .arrange .result) (length (o .args .s .now)) (c .arrange .ensures) (o .pre .1 .1 .0)
+    arranged-as (o .args .scene) (c .solve-parts .result) (length (o .args .s .now)) (c .solve-parts .ensures) (o .pre .1 .1 .0)
 
-arrange-requires : tie.Need-arrange-requires
-arrange-requires c κs = search needs
+solve-parts-requires : tie.Need-solve-parts-requires
+solve-parts-requires c κs = search needs
 
 solved-requires : tie.Need-solved-requires
 solved-requires c κs =
@@ -39,7 +39,7 @@ poses-at-requires c κs =
 room : (c : tie.After-poses-at)
     → let arranged = c .before .before .before .before .before .before in
     let g = arranged .before .before .before .before .before .before .args in
-    arranged .arrange .result .poses + 12 * g .scene .m ≤ length (c .poses-at .last .1 .1 .0)
+    arranged .solve-parts .result .poses + 12 * g .scene .m ≤ length (c .poses-at .last .1 .1 .0)
 room c =
     let ran = c .before .before .before .before in
     let a = placed (ran .before .before) in
@@ -96,7 +96,7 @@ pub solve-spec : {M : Type 1} → statement M
 solve-spec =
     tie.close
     (tie.spec
-    arrange-requires
+    solve-parts-requires
     solved-requires
     poses-at-requires
     mul-copy-out

@@ -1,4 +1,4 @@
--- `records::record::end_at` meets its contract: the definition unfolds to a record of four fields. What the calls promise of the bytes is put into what `place_of` and
+-- `records::record::end_at` meets its contract: the definition unfolds to a record of four fields. What the calls promise of the bytes is put into what `body_ref` and
 -- `prim_of` promise; the radius is a call's promise, the flag the same comparison of a byte. Assumes nothing.
 use Rattle.records.specs.Record.{endAt}
 use borrow.Author.Needs.{needs}
@@ -11,8 +11,8 @@ add-u16-at c = search needs
 u16-at-requires : tie.Need-u16-at-requires
 u16-at-requires c κs = search needs
 
-place-of-requires : tie.Need-place-of-requires
-place-of-requires c κs = search needs
+body-ref-requires : tie.Need-body-ref-requires
+body-ref-requires c κs = search needs
 
 shared-slice-read-prim-of : tie.Need-shared-slice-read-prim-of
 shared-slice-read-prim-of c = search needs
@@ -56,7 +56,7 @@ returns c =
     let prim = c .before .before in
     let vecs = prim .before .before in
     let place = vecs .before .before .before in
-    rw (c .before .double-at2 .ensures, prim .prim-of .ensures, prim .before .double-at .ensures, vecs .vec-at2 .ensures, vecs .before .vec-at .ensures, place .place-of .ensures, place .before .u16-at .ensures .0)
+    rw (c .before .double-at2 .ensures, prim .prim-of .ensures, prim .before .double-at .ensures, vecs .vec-at2 .ensures, vecs .before .vec-at .ensures, place .body-ref .ensures, place .before .u16-at .ensures .0)
 
 pub end-at-spec : {M : Type 1} → statement M
 end-at-spec =
@@ -64,7 +64,7 @@ end-at-spec =
     (tie.spec
     add-u16-at
     u16-at-requires
-    place-of-requires
+    body-ref-requires
     shared-slice-read-prim-of
     add-vec-at
     vec-at-requires

@@ -20,8 +20,8 @@ scene-in-requires c κs =
     let tested = c .before in
     accepted _ _ _ _ _ _ (sym (tested .solve-fault .ensures) ∙ c .if1 .taken) .sheet
 
-drag-place-requires : tie.Need-drag-place-requires
-drag-place-requires c κs = search needs
+drag-body-requires : tie.Need-drag-body-requires
+drag-body-requires c κs = search needs
 
 solve-requires : tie.Need-solve-requires
 solve-requires c κs =
@@ -54,9 +54,9 @@ returns c =
     let passed = read .before in
     let tested = passed .before in
     let g = entry tested .args in
-    answered (g .sheet .now) _ _ _ _ _ _ _ _ _ _ _ _ _ (bodyNumber (drag .drag-place .result)) _ (tested .solve-fault .ensures) (passed .if1 .taken)
+    answered (g .sheet .now) _ _ _ _ _ _ _ _ _ _ _ _ _ (bodyNumber (drag .drag-body .result)) _ (tested .solve-fault .ensures) (passed .if1 .taken)
     (read .scene-in .ensures)
-    (drag .drag-place .ensures)
+    (drag .drag-body .ensures)
     (search needs)
     (solved .solve .ensures)
     (c .flag .ensures)
@@ -72,7 +72,7 @@ sheet-solve-spec =
     (tie.spec
     solve-fault-requires
     scene-in-requires
-    drag-place-requires
+    drag-body-requires
     solve-requires
     flag-requires
     same-length

@@ -1,0 +1,89 @@
+-- `rounds::parts::solve_parts` meets its contract: the products of so many rows and unknowns are small, so no sum wraps. Assumes nothing.
+use mathlib.Core.Path.{refl}
+use Prim.Native.Nat.{_*_, _≤_}
+use native.Mathlib.Nat.{mul-le-mul}
+use native.Mathlib.Omega.{arith}
+use Rattle.scene.specs.declared.scene.Scene.{Scene as SceneStruct}
+use Rattle.rounds.proofs.parts.solve_parts.Statement.{statement}
+use Rattle.rounds.proofs.parts.solve_parts.Tie as tie
+
+-- of so many rows and unknowns, the products stay small
+products : (c : SceneStruct) → c .rows ≤ 896 → c .n ≤ 384 → (c .rows * c .n ≤ 344064) × (c .rows * c .rows ≤ 802816)
+products c h l = (mul-le-mul h l, mul-le-mul h h)
+
+add-slopes : tie.Need-add-slopes
+add-slopes c = omega (arith, products (c .args .scene) (omega arith) (omega arith))
+
+mul-matrix : tie.Need-mul-matrix
+mul-matrix c = omega (arith, products (c .args .scene) (omega arith) (omega arith))
+
+add-matrix : tie.Need-add-matrix
+add-matrix c = omega (arith, products (c .args .scene) (omega arith) (omega arith))
+
+mul-weights : tie.Need-mul-weights
+mul-weights c = omega (arith, products (c .args .scene) (omega arith) (omega arith))
+
+add-weights : tie.Need-add-weights
+add-weights c = omega (arith, products (c .args .scene) (omega arith) (omega arith))
+
+add-damped : tie.Need-add-damped
+add-damped c = omega (arith, products (c .args .scene) (omega arith) (omega arith))
+
+mul-right : tie.Need-mul-right
+mul-right c = omega (arith, products (c .args .scene) (omega arith) (omega arith))
+
+add-right : tie.Need-add-right
+add-right c = omega (arith, products (c .args .scene) (omega arith) (omega arith))
+
+add-at : tie.Need-add-at
+add-at c = omega (arith, products (c .args .scene) (omega arith) (omega arith))
+
+add-next : tie.Need-add-next
+add-next c = omega (arith, products (c .args .scene) (omega arith) (omega arith))
+
+add-ahead : tie.Need-add-ahead
+add-ahead c = omega (arith, products (c .args .scene) (omega arith) (omega arith))
+
+add-behind : tie.Need-add-behind
+add-behind c = omega (arith, products (c .args .scene) (omega arith) (omega arith))
+
+add-poses : tie.Need-add-poses
+add-poses c = omega (arith, products (c .args .scene) (omega arith) (omega arith))
+
+sub-t15 : tie.Need-sub-t15
+sub-t15 c = omega (arith, products (c .args .scene) (omega arith) (omega arith))
+
+sub-t16 : tie.Need-sub-t16
+sub-t16 c = omega (arith, products (c .args .scene) (omega arith) (omega arith))
+
+sub-t17 : tie.Need-sub-t17
+sub-t17 c = omega (arith, products (c .args .scene) (omega arith) (omega arith))
+
+sub-t18 : tie.Need-sub-t18
+sub-t18 c = omega (arith, products (c .args .scene) (omega arith) (omega arith))
+
+returns : tie.Need-returns
+returns c = refl
+
+pub solve-parts-spec : {M : Type 1} → statement M
+solve-parts-spec =
+    tie.close
+    (tie.spec
+    add-slopes
+    mul-matrix
+    add-matrix
+    mul-weights
+    add-weights
+    add-damped
+    mul-right
+    add-right
+    add-at
+    add-next
+    add-ahead
+    add-behind
+    add-poses
+    sub-t15
+    sub-t16
+    sub-t17
+    sub-t18
+    returns)
