@@ -1,6 +1,7 @@
 pub mod DoubleLaws
 pub mod PartLaws
 pub mod Round
+pub mod WholeLaws
 pub mod CloseLaws
 pub mod NearLaws
 pub mod Largest

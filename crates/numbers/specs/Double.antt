@@ -1,7 +1,8 @@
 -- The methods of Rust's f64 that the port uses and the language lacks. Document 01, "The train of files", last paragraph. Definitions only.
 use Prim.Native.Nat.{ℕ}
 use mathlib.Core.Bool.{Bool, true, false, not, _&&_, _||_, cond}
-use lib.Ieee.{Float, nan, inf, fin, binary64, add, rem, lt, eq, ofBits, isNan}
+use lib.IntN.{pos}
+use lib.Ieee.{Float, nan, inf, fin, binary64, add, rem, lt, eq, ofInt, ofBits, isNan}
 
 -- 0.0 and 1.0
 abbrev pub zero64 : Float
@@ -9,6 +10,10 @@ zero64 = ofBits binary64 0
 
 abbrev pub one64 : Float
 one64 = ofBits binary64 0x3FF0_0000_0000_0000
+
+-- a whole number as a double, as the Rust's `as f64` makes it: rounded once
+unfoldable pub ofWhole : ℕ → Float
+ofWhole n = ofInt binary64 (pos n)
 
 -- the sign bit; the one NaN of the definitions counts as positive
 unfoldable pub negative : Float → Bool

@@ -5,6 +5,7 @@ pub mod Horner
 pub mod Sum
 pub mod MaxAbs
 pub mod Differs
+pub mod Whole
 pub mod Parts
 pub mod Close
 pub mod Near

@@ -3,8 +3,16 @@
 ghost use mathlib.Core.Path.{_≡_};
 ghost use lib.Ieee.{isNan};
 ghost use Rattle.numbers.specs.Double as double;
+ghost use Rattle.numbers.specs.Whole.{Whole-double};
 
 const MINUS_ONE: f64 = -1.0;
+
+// A whole number as a double, exactly.
+pub fn of_u16(n: u16) -> f64
+    ensures { λ r. ⌜ Whole-double n r ⌝ }
+{
+    n as f64
+}
 
 pub fn is_nan(x: f64) -> bool
     ensures { λ r. ⌜ r ≡ isNan x ⌝ }
