@@ -23,9 +23,9 @@ use Rattle.numbers.proofs.BoundLaws.{Bounded, bounded, input, small-of-le, allG
 use Rattle.vectors.specs.Vec.{Vec}
 use Rattle.vectors.specs.Math.{apply}
 use Rattle.relations.specs.Geometry.{Geo, plane, line, point, circle, Pose, poseOf, place, placed}
-use Rattle.relations.specs.Model.{End, Law, mate, flush, angle, insert, tangent, symmetry, joint}
+use Rattle.relations.specs.Model.{End, Law, mate, flush, angle, insert, tangent, symmetry, joint, gear}
 use Rattle.relations.specs.Rows.{matePrim, mateRows, flushRows, insertRows, planeGap, planeTangentRows, symmetryRows, formulaRows, isPlane, tangentRows, residual, ground}
-use Rattle.scene.specs.Solve.{isBody, planeBody, names, endPose}
+use Rattle.scene.specs.Solve.{isBody, thirdBody, names, endPose}
 use Rattle.records.specs.Limits.{UNIT-LIMIT, THOUSAND, within, withinV}
 use Rattle.closeness.specs.RowBound.{POSITION-LIMIT, TEN-MILLION, smallPose, smallGeo, smallEnd, smallLaw, smallRel, exactLaw, unroundedRows, unroundedError, RowBound, ErrorBound}
 
@@ -232,12 +232,12 @@ end-parts : (e : End) → T (smallEnd e) → T (smallGeo (e .prim)) × T (within
 unfolding smallEnd
 end-parts e t = (and-l (smallGeo (e .prim)) _ t, and-r (smallGeo (e .prim)) _ t)
 
-plane-bodyd : (q : Pose Float) (g : Geo Float) → isPlane (placed doubles q g) ≡ isPlane g
+plane-placed : (q : Pose Float) (g : Geo Float) → isPlane (placed doubles q g) ≡ isPlane g
 unfolding placed isPlane
-plane-bodyd q (plane p n) = refl
-plane-bodyd q (line p d) = refl
-plane-bodyd q (point p) = refl
-plane-bodyd q (circle c n r) = refl
+plane-placed q (plane p n) = refl
+plane-placed q (line p d) = refl
+plane-placed q (point p) = refl
+plane-placed q (circle c n r) = refl
 
 module _ (a b : End) (qa qb qs : Pose Float) where
   -- on doubles, the rows are those of the formulas
@@ -247,9 +247,10 @@ module _ (a b : End) (qa qb qs : Pose Float) where
   same-rows (flush off) x = refl
   same-rows (angle want reference) x = absurd (holds x)
   same-rows (insert off aligned) x = refl
-  same-rows (tangent off inside) x = rw (plane-bodyd qa (a .prim), plane-bodyd qb (b .prim), x)
+  same-rows (tangent off inside) x = rw (plane-placed qa (a .prim), plane-placed qb (b .prim), x)
   same-rows (symmetry p) x = refl
   same-rows (joint kind flip off want) x = absurd (holds x)
+  same-rows (gear teethA teethB want carrier) x = absurd (holds x)
 
   module _ (ea : T (smallEnd a)) (eb : T (smallEnd b)) (ha : T (smallPose qa)) (hb : T (smallPose qb)) (hs : T (smallPose qs)) where
     formulas-close : (law : Law) → T (smallLaw law) → Close (formulaRows doubles law a b qa qb qs) (formulaRows fractions law a b qa qb qs)
@@ -262,6 +263,7 @@ module _ (a b : End) (qa qb qs : Pose Float) where
         tangents qa qb ha hb (a .radius) (b .radius) (end-parts a ea .1) (end-parts b eb .1) off inside (a .prim) (b .prim) w (end-parts a ea .0) (end-parts b eb .0)
     formulas-close (symmetry p) w = mirrors qa qb ha hb qs hs (p .prim) (a .prim) (b .prim) (end-parts p w .0) (end-parts a ea .0) (end-parts b eb .0)
     formulas-close (joint kind flip off want) w = tt
+    formulas-close (gear teethA teethB want carrier) w = tt
 
 pub row-bound : RowBound
 row-bound law a b qa qb qs x w ea eb ha hb hs =
@@ -293,8 +295,8 @@ pub error-bound : ErrorBound
 unfolding smallRel unroundedError unroundedRows names
 error-bound rel poses x w h =
     let s = and-r (smallLaw (rel .law)) _ (holds w) in
-    row-bound (rel .law) (rel .a) (rel .b) (endPose poses (rel .a .body)) (endPose poses (rel .b .body)) (endPose poses (planeBody (rel .law))) x
+    row-bound (rel .law) (rel .a) (rel .b) (endPose poses (rel .a .body)) (endPose poses (rel .b .body)) (endPose poses (thirdBody (rel .law))) x
     (is-true (smallLaw (rel .law)) (and-l (smallLaw (rel .law)) _ (holds w))) (is-true (smallEnd (rel .a)) (and-l (smallEnd (rel .a)) _ s)) (is-true (smallEnd (rel .b)) (and-r (smallEnd (rel .a)) _ s))
     (end-small poses (rel .a .body) (λ i e. h i (or-left (isBody (rel .a .body) i) _ e)))
     (end-small poses (rel .b .body) (λ i e. h i (or-right (isBody (rel .a .body) i) _ (or-left (isBody (rel .b .body) i) _ e))))
-    (end-small poses (planeBody (rel .law)) (λ i e. h i (or-right (isBody (rel .a .body) i) _ (or-right (isBody (rel .b .body) i) _ e))))
+    (end-small poses (thirdBody (rel .law)) (λ i e. h i (or-right (isBody (rel .a .body) i) _ (or-right (isBody (rel .b .body) i) _ e))))

@@ -11,10 +11,10 @@ use Rattle.numbers.specs.Ops.{fractions}
 use Rattle.numbers.specs.MaxAbs.{maxAbs, largestQ}
 use Rattle.numbers.specs.Differs.{Differs-by-at-most}
 use Rattle.relations.specs.Geometry.{Geo, plane, line, point, circle, Pose}
-use Rattle.relations.specs.Model.{End, Law, mate, flush, angle, insert, tangent, symmetry, joint, Rel}
+use Rattle.relations.specs.Model.{End, Law, mate, flush, angle, insert, tangent, symmetry, joint, gear, Rel}
 use Rattle.relations.specs.Rows.{isPlane, formulaRows, residual, ground}
 use Rattle.records.specs.Limits.{UNIT-LIMIT, THOUSAND, within, withinV}
-use Rattle.scene.specs.Solve.{planeBody, names, endPose, rowsAt}
+use Rattle.scene.specs.Solve.{thirdBody, names, endPose, rowsAt}
 
 -- ---- the limits, beside those of a sheet's doubles
 
@@ -45,7 +45,7 @@ unfoldable pub smallEnd : End → Bool
 unfolding smallGeo
 smallEnd e = smallGeo (e .prim) && within THOUSAND (e .radius)
 
--- offset and angle up to 1000, the reference up to 1.01, symmetry's plane as any end
+-- offset and angle up to 1000, the reference up to 1.01, symmetry's plane and a gear's carrier as any end
 unfoldable pub smallLaw : Law → Bool
 unfolding smallEnd
 smallLaw (mate off) = within THOUSAND off
@@ -55,6 +55,7 @@ smallLaw (insert off aligned) = within THOUSAND off
 smallLaw (tangent off inside) = within THOUSAND off
 smallLaw (symmetry p) = smallEnd p
 smallLaw (joint kind flip off want) = within THOUSAND off && within THOUSAND want
+smallLaw (gear teethA teethB want carrier) = within THOUSAND want && smallEnd carrier
 
 -- a relation within the sheet's limits
 unfoldable pub smallRel : Rel → Bool
@@ -72,6 +73,7 @@ exactLaw (insert off aligned) a b = true
 exactLaw (tangent off inside) a b = isPlane (a .prim) || isPlane (b .prim)
 exactLaw (symmetry p) a b = true
 exactLaw (joint kind flip off want) a b = false
+exactLaw (gear teethA teethB want carrier) a b = false
 
 -- ---- what a relation's error is held against
 
@@ -79,7 +81,7 @@ exactLaw (joint kind flip off want) a b = false
 unfoldable pub unroundedRows : List (Pose Float) → Rel → List Frac
 unfolding formulaRows
 unroundedRows poses rel =
-    formulaRows fractions (rel .law) (rel .a) (rel .b) (endPose poses (rel .a .body)) (endPose poses (rel .b .body)) (endPose poses (planeBody (rel .law)))
+    formulaRows fractions (rel .law) (rel .a) (rel .b) (endPose poses (rel .a .body)) (endPose poses (rel .b .body)) (endPose poses (thirdBody (rel .law)))
 
 -- their largest magnitude, 0 for none
 unfoldable pub unroundedError : List (Pose Float) → Rel → Frac

@@ -1,4 +1,4 @@
--- Reading gives every field's bits back: of a sheet that passes tests 1 to 7, each body and relation gives back the bytes that it uses. Test 5 puts every byte within its
+-- Reading gives every field's bits back: of a sheet that passes tests 1 to 7 and 14, each body and relation gives back the bytes that it uses. Test 5 puts every byte within its
 -- table, and test 7 leaves no NaN, the one double whose bits are not kept. Assumes nothing.
 use mathlib.Core.Path.{_≡_, refl, sym, _∙_}
 use mathlib.Core.Bool.{Bool, true, false, _&&_, cond}
@@ -15,13 +15,13 @@ use borrow.Author.Tests.{leb-true, eqb-true, eq-eqb}
 use Rattle.numbers.specs.Double.{abs}
 use Rattle.vectors.specs.Vec.{Vec}
 use Rattle.relations.specs.declared.model.JointKind.the-variants.{Ball}
-use Rattle.records.specs.Numbers.{JOINT, SYMMETRY, CIRCLE, lawNumber, jointNumber, primNumber, flagNumber, bodyRefNumber}
-use Rattle.records.specs.Record.{byteAt, u16At, u64At, doubleAt, vecAt, usesJoint, usesFlag, usesPlane, bodyNumberAt, primAt, bodyAt, endAt, lawBy, relAt}
+use Rattle.records.specs.Numbers.{SYMMETRY, GEAR, CIRCLE, lawNumber, jointNumber, primNumber, flagNumber, bodyRefNumber}
+use Rattle.records.specs.Record.{byteAt, u16At, u64At, doubleAt, vecAt, usesJoint, usesMirrored, usesFlag, usesThird, bodyNumberAt, primAt, bodyAt, endAt, lawBy, relAt}
 use Rattle.records.specs.Limits.{within, withinV, THOUSAND, UNIT-LIMIT}
-use Rattle.records.proofs.NumberLaws.{each-case}
+use Rattle.records.proofs.NumberLaws.{each-case, case-of}
 use Rattle.records.proofs.RecordLaws.{prim-number, kind-number, law-number}
 use Rattle.format.specs.Format.{bodiesOf, relationsOf, bodyStart, relStart}
-use Rattle.format.specs.Faults.{orElse, byteUpTo, bodyShape, bodyLimits, endShape, endLimits, planeShape, relShape, relNames, relLimits, bodyFault, relFault, headerFault, bodiesFault, relsFault, sheetFault}
+use Rattle.format.specs.Faults.{orElse, byteUpTo, bodyShape, bodyLimits, endShape, endLimits, thirdShape, relShape, relTeeth, relNames, relLimits, bodyFault, relFault, headerFault, bodiesFault, relsFault, sheetFault}
 use Rattle.format.proofs.RefusalLaws.{none-of, and-left, and-right}
 use Rattle.format.specs.Fields.{DoubleBack, VecBack, BodyBack, PrimBack, EndBack, LawBack, RelBack}
 
@@ -104,7 +104,7 @@ unfolding endShape endLimits endAt
 end-back law s e b shape limits =
     record {
       kind = prim-number (byteAt s e) _ _ _ (leb-true (byteAt s e) CIRCLE (search (and-left, and-right)));
-      mirrored = flag-back (byteAt s (e + 1)) (up-to (usesJoint law) (flagNumber true) (byteAt s (e + 1)) (search (and-left, and-right)));
+      mirrored = flag-back (byteAt s (e + 1)) (up-to (usesMirrored law) (flagNumber true) (byteAt s (e + 1)) (search (and-left, and-right)));
       body = place-back (u16At s (e + 2));
       prim =
           prim-back s e (byteAt s e) (vecAt s (e + 8)) (vecAt s (e + 32)) (doubleAt s (e + 56)) (vec-back s (e + 8) THOUSAND b (search (and-left, and-right)))
@@ -114,44 +114,51 @@ end-back law s e b shape limits =
 
 -- ---- relations
 
-law-back : (n : ℕ) (s : List ℕ) (r : ℕ) → byteAt s (r + 1) ≤ jointNumber Ball → byteAt s (r + 2) ≤ flagNumber true → DoubleBack s (r + 8) (doubleAt s (r + 8))
-    → DoubleBack s (r + 16) (doubleAt s (r + 16)) → VecBack s (r + 24) (vecAt s (r + 24)) → (n ≡ SYMMETRY → EndBack s (r + 192) (endAt s (r + 192)))
+law-back : (n : ℕ) (s : List ℕ) (r : ℕ) → n ≤ GEAR → byteAt s (r + 1) ≤ jointNumber Ball → byteAt s (r + 2) ≤ flagNumber true → DoubleBack s (r + 8) (doubleAt s (r + 8))
+    → DoubleBack s (r + 16) (doubleAt s (r + 16)) → VecBack s (r + 24) (vecAt s (r + 24)) → (usesThird n ≡ true → EndBack s (r + 192) (endAt s (r + 192)))
     → LawBack s r (lawBy n s r)
 unfolding lawBy
-law-back n s r j f off want v plane =
+law-back n s r h j f off want v third =
     let flag = flag-back (byteAt s (r + 2)) f in
-    each-case lawNumber n (λ l. LawBack s r l) _ _
-    ((λ q. off), ((λ q. off), ((λ q. (want, v)), ((λ q. (off, flag)), ((λ q. (off, flag)), (plane, (kind-number (byteAt s (r + 1)) j, (flag, (off, want)))))))))
+    case-of lawNumber (λ l. LawBack s r l) n 0 _ _ (refl, (refl, (refl, (refl, (refl, (refl, (refl, refl))))))) (omega arith) h
+    ((λ q. off),
+    ((λ q. off),
+    ((λ q. (want, v)),
+    ((λ q. (off, flag)),
+    ((λ q. (off, flag)),
+    ((λ q. third (rw q)),
+    ((λ q. (kind-number (byteAt s (r + 1)) j, (flag, (off, want)))), (λ q. (refl, (refl, (want, third (rw q))))))))))))
 
-plane-used : (law : ℕ) (s : List ℕ) (e : ℕ) → planeShape law s e ≡ true → law ≡ SYMMETRY → endShape law s e ≡ true
-unfolding planeShape
-plane-used law s e h p = rw (eq-eqb law SYMMETRY p) at h
+third-used : (law : ℕ) (s : List ℕ) (e : ℕ) → thirdShape law s e ≡ true → usesThird law ≡ true → endShape law s e ≡ true
+unfolding thirdShape
+third-used law s e h p = rw p at h
 
 rel-of : (s : List ℕ) (r : ℕ) → Bytes s → relShape s r ≡ true → relLimits s r ≡ true → RelBack s r (relAt s r)
 unfolding relShape relLimits relAt
 rel-of s r b shape limits =
     let law = byteAt s r in
     record {
-      number = law-number law s r (leb-true law JOINT (search (and-left, and-right) depth 12));
+      number = law-number law s r (leb-true law GEAR (search (and-left, and-right) depth 12));
       law =
-          law-back law s r (up-to (usesJoint law) (jointNumber Ball) (byteAt s (r + 1)) (search (and-left, and-right) depth 12))
+          law-back law s r (leb-true law GEAR (search (and-left, and-right) depth 12)) (up-to (usesJoint law) (jointNumber Ball) (byteAt s (r + 1)) (search (and-left, and-right) depth 12))
           (up-to (usesFlag law) (flagNumber true) (byteAt s (r + 2)) (search (and-left, and-right) depth 12))
           (double-back s (r + 8) THOUSAND b (search (and-left, and-right) depth 12)) (double-back s (r + 16) THOUSAND b (search (and-left, and-right) depth 12))
           (vec-back s (r + 24) UNIT-LIMIT b (search (and-left, and-right) depth 12))
-          (λ p. end-back law s (r + 192) b (plane-used law s (r + 192) (search (and-left, and-right) depth 12) p) (search (and-left, and-right) depth 12));
+          (λ p. end-back law s (r + 192) b (third-used law s (r + 192) (search (and-left, and-right) depth 12) p) (search (and-left, and-right) depth 12));
       a = end-back law s (r + 48) b (search (and-left, and-right) depth 12) (search (and-left, and-right) depth 12);
       b = end-back law s (r + 120) b (search (and-left, and-right) depth 12) (search (and-left, and-right) depth 12);
     }
 
-three : (a n l : Bool) → _≡_ {A = ℕ} (cond a (cond n (cond l 0 7) 6) 5) 0 → (a ≡ true) × (l ≡ true)
-three true true true h = (refl, refl)
-three true true false h = absurd (let z : _≡_ {A = ℕ} 7 0 = h in omega arith)
-three true false l h = absurd (let z : _≡_ {A = ℕ} 6 0 = h in omega arith)
-three false n l h = absurd (let z : _≡_ {A = ℕ} 5 0 = h in omega arith)
+four : (a t n l : Bool) → _≡_ {A = ℕ} (cond a (cond t (cond n (cond l 0 7) 6) 14) 5) 0 → (a ≡ true) × (l ≡ true)
+four true true true true h = (refl, refl)
+four true true true false h = absurd (let z : _≡_ {A = ℕ} 7 0 = h in omega arith)
+four true true false l h = absurd (let z : _≡_ {A = ℕ} 6 0 = h in omega arith)
+four true false n l h = absurd (let z : _≡_ {A = ℕ} 14 0 = h in omega arith)
+four false t n l h = absurd (let z : _≡_ {A = ℕ} 5 0 = h in omega arith)
 
 rel-back : (m : ℕ) (s : List ℕ) (r : ℕ) → Bytes s → relFault m s r ≡ 0 → RelBack s r (relAt s r)
 unfolding relFault
-rel-back m s r b h = let p = three (relShape s r) (relNames m s r) (relLimits s r) h in rel-of s r b (p .0) (p .1)
+rel-back m s r b h = let p = four (relShape s r) (relTeeth s r) (relNames m s r) (relLimits s r) h in rel-of s r b (p .0) (p .1)
 
 -- ---- the sheet
 
@@ -169,7 +176,7 @@ each-rel s (suc k) j h l =
     let p = none-of (relsFault s k) (relFault (bodiesOf s) s (relStart (bodiesOf s) k)) h in
     ⊎-elim (λ (e : j ≡ k). rw e (p .1)) (λ (i : j < k). each-rel s k j (p .0) i) (eq-or-lt-of-le (le-of-suc-le-suc l))
 
--- of a sheet that passes tests 1 to 7, every body gives its fields back, and every relation
+-- of a sheet that passes tests 1 to 7 and 14, every body gives its fields back, and every relation
 pub bodies-back : (s : List ℕ) → Bytes s → sheetFault s ≡ 0 → (i : ℕ) → i < bodiesOf s → BodyBack s (bodyStart i) (bodyAt s (bodyStart i))
 unfolding sheetFault
 bodies-back s b h i l =

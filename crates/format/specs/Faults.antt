@@ -1,13 +1,13 @@
--- Which number a sheet gives, or 0 for none, for any bytes. Document 01, "What a call says", the table of refusals: tests 1 to 4, then each record in order by 5, 6, 7.
--- Definitions only.
+-- Which number a sheet gives, or 0 for none, for any bytes. Document 01, "What a call says", the table of refusals: tests 1 to 4, then each record in order by 5, 6, 7;
+-- document 02, 1/14, for the gear and for test 14, between a relation's 5 and its 6. Definitions only.
 use Prim.Native.Nat.{ℕ, zero, suc, _+_}
 use mathlib.Core.Bool.{Bool, true, not, _&&_, _||_, cond}
 use mathlib.Core.List.{List}
 use lib.ListN.{length}
 use lib.Dec.{eqb, leb, ltb}
 use Rattle.relations.specs.declared.model.JointKind.the-variants.{Ball}
-use Rattle.records.specs.Numbers.{JOINT, CIRCLE, jointNumber, flagNumber, GROUND}
-use Rattle.records.specs.Record.{byteAt, u16At, u32At, doubleAt, vecAt, zeroBytes, usesOffset, usesAngle, usesReference, usesFlag, usesJoint, usesEndRadius, usesPlane, usesDirection, usesCircleRadius}
+use Rattle.records.specs.Numbers.{GEAR, CIRCLE, jointNumber, flagNumber, GROUND}
+use Rattle.records.specs.Record.{byteAt, u16At, u32At, doubleAt, vecAt, zeroBytes, usesOffset, usesAngle, usesReference, usesFlag, usesJoint, usesMirrored, usesTeeth, usesEndRadius, usesThird, usesDirection, usesCircleRadius}
 use Rattle.records.specs.Limits.{UNIT-LIMIT, THOUSAND, within, withinV}
 use Rattle.format.specs.Format.{bodiesOf, relationsOf, bodyStart, relStart}
 
@@ -53,25 +53,37 @@ bodyShape s o = leb (byteAt s o) (flagNumber true) && zeroBytes s (o + 1) 7
 unfoldable pub endShape : ℕ → List ℕ → ℕ → Bool
 endShape law s e =
     leb (byteAt s e) CIRCLE
-    && (byteUpTo (usesJoint law) (flagNumber true) (byteAt s (e + 1))
+    && (byteUpTo (usesMirrored law) (flagNumber true) (byteAt s (e + 1))
     && (zeroBytes s (e + 4) 4
     && (usedOrZero (usesDirection (byteAt s e)) s (e + 32) 24 && (usedOrZero (usesCircleRadius (byteAt s e)) s (e + 56) 8 && usedOrZero (usesEndRadius law) s (e + 64) 8))))
 
 -- the third end, all 0 unless it is used
-unfoldable pub planeShape : ℕ → List ℕ → ℕ → Bool
-planeShape law s e = cond (usesPlane law) (endShape law s e) (zeroBytes s e 72)
+unfoldable pub thirdShape : ℕ → List ℕ → ℕ → Bool
+thirdShape law s e = cond (usesThird law) (endShape law s e) (zeroBytes s e 72)
 
 unfoldable pub relShape : List ℕ → ℕ → Bool
 relShape s r =
     let law = byteAt s r in
-    leb law JOINT
+    leb law GEAR
     && (byteUpTo (usesJoint law) (jointNumber Ball) (byteAt s (r + 1))
     && (byteUpTo (usesFlag law) (flagNumber true) (byteAt s (r + 2))
-    && (zeroBytes s (r + 3) 5
+    && (zeroBytes s (r + 3) 1
+    && (usedOrZero (usesTeeth law) s (r + 4) 4
     && (usedOrZero (usesOffset law) s (r + 8) 8
     && (usedOrZero (usesAngle law) s (r + 16) 8
     && (usedOrZero (usesReference law) s (r + 24) 24
-    && (endShape law s (r + 48) && (endShape law s (r + 120) && planeShape law s (r + 192)))))))))
+    && (endShape law s (r + 48) && (endShape law s (r + 120) && thirdShape law s (r + 192))))))))))
+
+-- ---- 14: the wheels of a gear have 1 to 400 teeth
+
+abbrev pub MOST-TEETH : ℕ
+MOST-TEETH = 400
+
+unfoldable pub teethFit : ℕ → Bool
+teethFit n = leb 1 n && leb n MOST-TEETH
+
+unfoldable pub relTeeth : List ℕ → ℕ → Bool
+relTeeth s r = not (usesTeeth (byteAt s r)) || (teethFit (u16At s (r + 4)) && teethFit (u16At s (r + 6)))
 
 -- ---- 6: every end that is used names a body or the ground
 
@@ -79,7 +91,7 @@ unfoldable pub endNames : ℕ → List ℕ → ℕ → Bool
 endNames m s e = eqb (u16At s (e + 2)) GROUND || ltb (u16At s (e + 2)) m
 
 unfoldable pub relNames : ℕ → List ℕ → ℕ → Bool
-relNames m s r = endNames m s (r + 48) && (endNames m s (r + 120) && (not (usesPlane (byteAt s r)) || endNames m s (r + 192)))
+relNames m s r = endNames m s (r + 48) && (endNames m s (r + 120) && (not (usesThird (byteAt s r)) || endNames m s (r + 192)))
 
 -- ---- 7: doubles within their limits; a NaN is not
 
@@ -108,7 +120,7 @@ unfoldable pub bodyFault : List ℕ → ℕ → ℕ
 bodyFault s o = cond (bodyShape s o) (unless (bodyLimits s o) 7) 5
 
 unfoldable pub relFault : ℕ → List ℕ → ℕ → ℕ
-relFault m s r = cond (relShape s r) (cond (relNames m s r) (unless (relLimits s r) 7) 6) 5
+relFault m s r = cond (relShape s r) (cond (relTeeth s r) (cond (relNames m s r) (unless (relLimits s r) 7) 6) 14) 5
 
 -- the first fault among the first i bodies, and among the first j relations
 unfoldable pub bodiesFault : List ℕ → ℕ → ℕ
@@ -119,6 +131,6 @@ unfoldable pub relsFault : List ℕ → ℕ → ℕ
 relsFault s zero = 0
 relsFault s (suc j) = orElse (relsFault s j) (relFault (bodiesOf s) s (relStart (bodiesOf s) j))
 
--- 1 to 7: what every call asks of the sheet
+-- 1 to 7 and 14: what every call asks of the sheet
 unfoldable pub sheetFault : List ℕ → ℕ
 sheetFault s = orElse (headerFault s) (orElse (bodiesFault s (bodiesOf s)) (relsFault s (relationsOf s)))

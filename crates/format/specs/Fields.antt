@@ -1,12 +1,12 @@
--- Which bytes a body and a relation give back: each byte and body by the number of its case, and the bits of each double that is used. Document 01, "The sheet".
--- Definitions only.
+-- Which bytes a body and a relation give back: each byte and body by the number of its case, and the bits of each double that is used. Document 01, "The sheet";
+-- document 02, 1/14, for the gear. Definitions only.
 use Prim.Native.Nat.{ℕ, _+_}
 use mathlib.Core.Path.{_≡_}
 use mathlib.Core.List.{List}
 use lib.Ieee.{Float, binary64, toBits}
 use Rattle.vectors.specs.Vec.{Vec}
 use Rattle.relations.specs.Geometry.{Geo, plane, line, point, circle}
-use Rattle.relations.specs.Model.{Body, End, Law, mate, flush, angle, insert, tangent, symmetry, joint, Rel}
+use Rattle.relations.specs.Model.{Body, End, Law, mate, flush, angle, insert, tangent, symmetry, joint, gear, Rel}
 use Rattle.records.specs.Numbers.{lawNumber, jointNumber, primNumber, flagNumber, bodyRefNumber}
 use Rattle.records.specs.Record.{byteAt, u16At, u64At}
 
@@ -54,6 +54,8 @@ LawBack s r (symmetry p) = EndBack s (r + 192) p
 LawBack s r (joint kind flip off want) =
     (jointNumber kind ≡ byteAt s (r + 1))
     × ((flagNumber flip ≡ byteAt s (r + 2)) × (DoubleBack s (r + 8) off × DoubleBack s (r + 16) want))
+LawBack s r (gear teethA teethB want carrier) =
+    (teethA ≡ u16At s (r + 4)) × ((teethB ≡ u16At s (r + 6)) × (DoubleBack s (r + 16) want × EndBack s (r + 192) carrier))
 
 pub record RelBack (s : List ℕ) (r : ℕ) (rel : Rel) : Type 0 where
   pub number : lawNumber (rel .law) ≡ byteAt s r

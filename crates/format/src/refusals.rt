@@ -1,5 +1,5 @@
-// Tests 1 to 7 of the table of refusals, as specs/Faults.antt defines them: the header, then each record by its bytes (5), the bodies that its ends name (6) and its
-// doubles (7).
+// Tests 1 to 7 and 14 of the table of refusals, as specs/Faults.antt defines them: the header, then each record by its bytes (5), the teeth of a gear's wheels (14), the
+// bodies that its ends name (6) and its doubles (7).
 
 use records::record::double_at;
 use records::record::u16_at;
@@ -15,6 +15,9 @@ ghost use Rattle.format.specs.Faults as spec;
 const UNIT_LIMIT: f64 = 1.01;
 
 const THOUSAND: f64 = 1000.0;
+
+// The most teeth of a wheel.
+const MOST_TEETH: usize = 400;
 
 // The ground's number as a body.
 const GROUND: usize = 0xFFFF;
@@ -56,7 +59,7 @@ fn uses_offset(law: u8) -> bool
 fn uses_angle(law: u8) -> bool
     ensures { λ r. ⌜ r ≡ fields.usesAngle law ⌝ }
 {
-    (law == 2) | (law == 6)
+    (law == 2) | ((law == 6) | (law == 7))
 }
 
 fn uses_reference(law: u8) -> bool
@@ -77,16 +80,28 @@ fn uses_joint(law: u8) -> bool
     law == 6
 }
 
+fn uses_mirrored(law: u8) -> bool
+    ensures { λ r. ⌜ r ≡ fields.usesMirrored law ⌝ }
+{
+    (law == 6) | (law == 7)
+}
+
+fn uses_teeth(law: u8) -> bool
+    ensures { λ r. ⌜ r ≡ fields.usesTeeth law ⌝ }
+{
+    law == 7
+}
+
 fn uses_end_radius(law: u8) -> bool
     ensures { λ r. ⌜ r ≡ fields.usesEndRadius law ⌝ }
 {
     law == 4
 }
 
-fn uses_plane(law: u8) -> bool
-    ensures { λ r. ⌜ r ≡ fields.usesPlane law ⌝ }
+fn uses_third(law: u8) -> bool
+    ensures { λ r. ⌜ r ≡ fields.usesThird law ⌝ }
 {
-    law == 5
+    (law == 5) | (law == 7)
 }
 
 fn uses_direction(prim: u8) -> bool
@@ -182,7 +197,7 @@ fn end_shape(law: u8, s: &[u8], e: usize) -> bool
     ensures { λ r. ⌜ r ≡ spec.endShape law (now (s .entry)) e ⌝ }
 {
     let kind = s[e];
-    let mirrored = byte_up_to(uses_joint(law), 1, s[e + 1]);
+    let mirrored = byte_up_to(uses_mirrored(law), 1, s[e + 1]);
     let zeros = zero_bytes(s, e + 4, 4);
     let direction = used_or_zero(uses_direction(kind), s, e + 32, 24);
     let circle_radius = used_or_zero(uses_circle_radius(kind), s, e + 56, 8);
@@ -191,11 +206,11 @@ fn end_shape(law: u8, s: &[u8], e: usize) -> bool
 }
 
 // The third end, all 0 unless it is used.
-fn plane_shape(law: u8, s: &[u8], e: usize) -> bool
+fn third_shape(law: u8, s: &[u8], e: usize) -> bool
     requires { ⌜ e + 72 ≤ length (now s) ⌝ }
-    ensures { λ r. ⌜ r ≡ spec.planeShape law (now (s .entry)) e ⌝ }
+    ensures { λ r. ⌜ r ≡ spec.thirdShape law (now (s .entry)) e ⌝ }
 {
-    if uses_plane(law) {
+    if uses_third(law) {
         return end_shape(law, s, e);
     }
     zero_bytes(s, e, 72)
@@ -208,14 +223,35 @@ fn rel_shape(s: &[u8], r: usize) -> bool
     let law = s[r];
     let joint = byte_up_to(uses_joint(law), 5, s[r + 1]);
     let flag = byte_up_to(uses_flag(law), 1, s[r + 2]);
-    let zeros = zero_bytes(s, r + 3, 5);
+    let zeros = zero_bytes(s, r + 3, 1);
+    let teeth = used_or_zero(uses_teeth(law), s, r + 4, 4);
     let offset = used_or_zero(uses_offset(law), s, r + 8, 8);
     let angle = used_or_zero(uses_angle(law), s, r + 16, 8);
     let reference = used_or_zero(uses_reference(law), s, r + 24, 24);
     let a = end_shape(law, s, r + 48);
     let b = end_shape(law, s, r + 120);
-    let plane = plane_shape(law, s, r + 192);
-    (law <= 6) & (joint & (flag & (zeros & (offset & (angle & (reference & (a & (b & plane))))))))
+    let third = third_shape(law, s, r + 192);
+    (law <= 7)
+        & (joint & (flag & (zeros & (teeth & (offset & (angle & (reference & (a & (b & third)))))))))
+}
+
+// A wheel's teeth, 1 to 400.
+fn teeth_fit(s: &[u8], o: usize) -> bool
+    requires { ⌜ o + 2 ≤ length (now s) ⌝ }
+    ensures { λ r. ⌜ r ≡ spec.teethFit (fields.u16At (now (s .entry)) o) ⌝ }
+{
+    let n = number_at(s, o);
+    (1 <= n) & (n <= MOST_TEETH)
+}
+
+fn rel_teeth(s: &[u8], r: usize) -> bool
+    requires { ⌜ r + 264 ≤ length (now s) ⌝ }
+    ensures { λ w. ⌜ w ≡ spec.relTeeth (now (s .entry)) r ⌝ }
+{
+    let gear = uses_teeth(s[r]);
+    let a = teeth_fit(s, r + 4);
+    let b = teeth_fit(s, r + 6);
+    !gear | (a & b)
 }
 
 // An end names a body or the ground.
@@ -233,9 +269,9 @@ fn rel_names(m: usize, s: &[u8], r: usize) -> bool
 {
     let a = end_names(m, s, r + 48);
     let b = end_names(m, s, r + 120);
-    let symmetry = uses_plane(s[r]);
-    let plane = end_names(m, s, r + 192);
-    a & (b & (!symmetry | plane))
+    let used = uses_third(s[r]);
+    let third = end_names(m, s, r + 192);
+    a & (b & (!used | third))
 }
 
 // A NaN is within no limit.
@@ -295,8 +331,8 @@ fn rel_limits(s: &[u8], r: usize) -> bool
     let reference = vec_within(UNIT_LIMIT, s, r + 24);
     let a = end_limits(s, r + 48);
     let b = end_limits(s, r + 120);
-    let plane = end_limits(s, r + 192);
-    offset & (angle & (reference & (a & (b & plane))))
+    let third = end_limits(s, r + 192);
+    offset & (angle & (reference & (a & (b & third))))
 }
 
 fn body_fault(s: &[u8], o: usize) -> u32
@@ -315,10 +351,14 @@ fn rel_fault(m: usize, s: &[u8], r: usize) -> u32
     ensures { λ w. ⌜ w ≡ spec.relFault m (now (s .entry)) r ⌝ }
 {
     if rel_shape(s, r) {
-        if rel_names(m, s, r) {
-            if rel_limits(s, r) { 0 } else { 7 }
+        if rel_teeth(s, r) {
+            if rel_names(m, s, r) {
+                if rel_limits(s, r) { 0 } else { 7 }
+            } else {
+                6
+            }
         } else {
-            6
+            14
         }
     } else {
         5
@@ -360,7 +400,7 @@ fn rels_fault(s: &[u8], m: usize, k: usize) -> u32
     fault
 }
 
-// Tests 1 to 7: the number of the first that fails, 0 for none.
+// Tests 1 to 7 and 14: the number of the first that fails, 0 for none.
 pub fn sheet_fault(s: &[u8]) -> u32
     ensures { λ r. ⌜ r ≡ spec.sheetFault (now (s .entry)) ⌝ }
 {

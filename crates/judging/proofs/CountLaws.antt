@@ -10,8 +10,8 @@ use lib.Ieee.{Float}
 use Rattle.numbers.specs.Ops.{doubles}
 use Rattle.vectors.specs.Vec.{Vec}
 use Rattle.relations.specs.Geometry.{Geo, plane, line, point, circle, Pose, placed, directionOf}
-use Rattle.relations.specs.Model.{End, Law, mate, flush, angle, insert, tangent, symmetry, joint}
-use Rattle.relations.specs.Rows.{Pair, planes, lines, points, planePoint, linePoint, planeLine, other, pair, isPlane, matePrim, mateRows, flushRows, insertRows, planeTangentRows, roundTangentRows, tangentRows, mirrorRows, symmetryRows, formulaRows, JointAt, jointRows, angleRows, residual, rowsOf, pack}
+use Rattle.relations.specs.Model.{End, Law, mate, flush, angle, insert, tangent, symmetry, joint, gear}
+use Rattle.relations.specs.Rows.{Pair, planes, lines, points, planePoint, linePoint, planeLine, other, pair, isPlane, matePrim, mateRows, flushRows, insertRows, planeTangentRows, roundTangentRows, tangentRows, mirrorRows, symmetryRows, formulaRows, JointAt, jointRows, angleRows, gearRows, residual, rowsOf, pack}
 use Rattle.judging.specs.Judge.{isCircle, hasDirection}
 use Rattle.judging.specs.Count.{mateCount, tangentCount, mirrorCount, jointCount, rowCount}
 use Rattle.relations.specs.declared.model.JointKind.{JointKind}
@@ -132,7 +132,7 @@ joint-length Ball flip off want a b = refl
 
 -- `residual` has `rowCount` rows
 pub residual-length : (law : Law) (a b : End) (qa qb qs : Pose Float) → length (residual law a b qa qb qs) ≡ rowCount law (a .prim) (b .prim)
-unfolding residual formulaRows rowCount
+unfolding residual formulaRows gearRows rowCount
 residual-length (mate off) a b qa qb qs = mate-length qa qb off (a .prim) (b .prim)
 residual-length (flush off) a b qa qb qs = flush-length qa qb off (a .prim) (b .prim)
 residual-length (angle want reference) a b qa qb qs = angle-length qa qb want _ (a .prim) (b .prim)
@@ -140,6 +140,7 @@ residual-length (insert off aligned) a b qa qb qs = insert-length qa qb off alig
 residual-length (tangent off inside) a b qa qb qs = tangent-length qa qb (a .radius) (b .radius) off inside (a .prim) (b .prim)
 residual-length (symmetry p) a b qa qb qs = symmetry-length qa qb qs (p .prim) (a .prim) (b .prim)
 residual-length (joint kind flip off want) a b qa qb qs = joint-length kind flip off want _ _
+residual-length (gear teethA teethB want carrier) a b qa qb qs = refl
 
 -- ---- at most seven
 
@@ -195,6 +196,7 @@ row-count-le (insert off aligned) a b = pick-le (isCircle a && isCircle b) (omeg
 row-count-le (tangent off inside) a b = tangent-le (pair a b)
 row-count-le (symmetry p) a b = pick-le (isPlane (p .prim)) (mirror-le (pair (matePrim a) (matePrim b))) (omega arith)
 row-count-le (joint kind flip off want) a b = joint-le kind
+row-count-le (gear teethA teethB want carrier) a b = omega arith
 
 -- seven rows or fewer are packed whole
 pub rows-packed : (l : List Float) → length l ≤ 7 → rowsOf (pack l) ≡ l

@@ -3,7 +3,7 @@ use Prim.Native.Nat.{ℕ}
 use mathlib.Core.Bool.{_&&_, cond}
 use lib.Ieee.{Float}
 use Rattle.relations.specs.Geometry.{Geo}
-use Rattle.relations.specs.Model.{Law, mate, flush, angle, insert, tangent, symmetry, joint}
+use Rattle.relations.specs.Model.{Law, mate, flush, angle, insert, tangent, symmetry, joint, gear}
 use Rattle.relations.specs.Rows.{Pair, planes, lines, points, planePoint, linePoint, planeLine, other, pair, isPlane, matePrim}
 use Rattle.judging.specs.Judge.{isCircle, hasDirection}
 use Rattle.relations.specs.declared.model.JointKind.{JointKind}
@@ -53,3 +53,4 @@ rowCount (insert off aligned) a b = cond (isCircle a && isCircle b) 6 0
 rowCount (tangent off inside) a b = tangentCount (pair a b)
 rowCount (symmetry p) a b = cond (isPlane (p .prim)) (mirrorCount (pair (matePrim a) (matePrim b))) 0
 rowCount (joint kind flip off want) a b = jointCount kind
+rowCount (gear teethA teethB want carrier) a b = 1

@@ -1,4 +1,5 @@
--- `check`, `check_tangent` and `joint_reading` of solve.rs. Document 01, "What a call says", numbers 11 and 12. Definitions only.
+-- `check`, `check_tangent` and `joint_reading` of solve.rs. Document 01, "What a call says", numbers 11 and 12; document 02, 1/14, for the gear, which any two ends suit.
+-- Definitions only.
 use Prim.Native.Nat.{ℕ}
 use mathlib.Core.Bool.{Bool, true, false, not, _&&_, _||_, cond}
 use lib.Ieee.{Float, lt}
@@ -6,7 +7,7 @@ use Rattle.numbers.specs.Ops.{doubles}
 use Rattle.numbers.specs.Double.{zero64}
 use Rattle.vectors.specs.Vec.{subV, dot}
 use Rattle.relations.specs.Geometry.{Geo, plane, line, point, circle, Pose}
-use Rattle.relations.specs.Model.{End, Law, mate, flush, angle, insert, tangent, symmetry, joint, Rel}
+use Rattle.relations.specs.Model.{End, Law, mate, flush, angle, insert, tangent, symmetry, joint, gear, Rel}
 use Rattle.relations.specs.Rows.{Pair, planes, lines, points, planePoint, linePoint, planeLine, other, pair, matePrim, isPlane, JointAt, jointAt, turn}
 use Rattle.judging.specs.declared.judge.Reading.{Reading as ReadingStruct}
 
@@ -46,6 +47,7 @@ suits (insert off aligned) a b = isCircle a && isCircle b
 suits (tangent off inside) a b = suitsTangent a b
 suits (symmetry p) a b = isPlane (p .prim) && twoOfAKind (pair (matePrim a) (matePrim b))
 suits (joint kind flip off want) a b = true
+suits (gear teethA teethB want carrier) a b = true
 
 -- `check`: 0 where the pair suits the law, else 11
 unfoldable pub check : Law → Geo Float → Geo Float → ℕ
@@ -73,6 +75,7 @@ isTangent (insert off aligned) = false
 isTangent (tangent off inside) = true
 isTangent (symmetry p) = false
 isTangent (joint kind flip off want) = false
+isTangent (gear teethA teethB want carrier) = false
 
 -- judging: `check`, then for a tangent `check_tangent`; 0 where both pass
 unfoldable pub judge : Rel → ℕ

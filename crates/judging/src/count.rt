@@ -119,6 +119,12 @@ fn law_count(law: Law, a: Prim, b: Prim) -> usize
             offset: _,
             angle: _,
         } => joint_count(joint),
+        Law::Gear {
+            teeth_a: _,
+            teeth_b: _,
+            angle: _,
+            carrier: _,
+        } => 1,
     }
 }
 

@@ -135,6 +135,12 @@ fn suits(law: Law, a: Prim, b: Prim) -> bool
             offset: _,
             angle: _,
         } => true,
+        Law::Gear {
+            teeth_a: _,
+            teeth_b: _,
+            angle: _,
+            carrier: _,
+        } => true,
     }
 }
 
@@ -202,6 +208,12 @@ fn is_tangent(law: Law) -> bool
             flip: _,
             offset: _,
             angle: _,
+        } => false,
+        Law::Gear {
+            teeth_a: _,
+            teeth_b: _,
+            angle: _,
+            carrier: _,
         } => false,
     }
 }

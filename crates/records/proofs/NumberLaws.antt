@@ -34,6 +34,19 @@ module _ {A : Type 0} (number : A → ℕ) where
   up-to-last k [] last o = omega arith
   up-to-last k (a ∷ rest) last o = omega (arith, up-to-last (suc k) rest last (o .1))
 
+  -- P of each case whose number is n, the last one too
+  abbrev pub CaseOf : (A → Type 0) → ℕ → List A → A → Type 0
+  CaseOf P n [] last = n ≡ number last → P last
+  CaseOf P n (a ∷ rest) last = (n ≡ number a → P a) × CaseOf P n rest last
+
+  pub case-of : (P : A → Type 0) (n k : ℕ) (cases : List A) (last : A) → InOrder k cases last → k ≤ n → n ≤ number last → CaseOf P n cases last
+      → P (byNumber number n cases last)
+  unfolding byNumber
+  case-of P n k [] last o h l e = e (omega arith)
+  case-of P n k (a ∷ rest) last o h l e =
+      one-of P (eqb n (number a)) a _ (λ q. e .0 (eqb-true n (number a) q))
+      (λ q. case-of P n (suc k) rest last (o .1) (omega (arith, eqb-false n (number a) q, o .0)) l (e .1))
+
   pub number-back : (n k : ℕ) (cases : List A) (last : A) → InOrder k cases last → k ≤ n → n ≤ number last → number (byNumber number n cases last) ≡ n
   unfolding byNumber
   number-back n k [] last o h l = omega arith

@@ -11,10 +11,10 @@ use borrow.Author.Tests.{lt-ltb, le-ltb}
 use Rattle.numbers.proofs.DoubleLaws.{nan-only}
 use Rattle.vectors.specs.Vec.{Vec}
 use Rattle.relations.specs.Geometry.{circle}
-use Rattle.relations.specs.Model.{joint}
+use Rattle.relations.specs.Model.{gear}
 use Rattle.relations.specs.declared.model.JointKind.the-variants.{Ball}
-use Rattle.records.specs.Numbers.{CIRCLE, JOINT, primNumber, jointNumber, lawNumber}
-use Rattle.records.specs.Record.{primAt, jointKindAt, lawBy, byteAt, flagAt, doubleAt}
+use Rattle.records.specs.Numbers.{CIRCLE, GEAR, primNumber, jointNumber, lawNumber}
+use Rattle.records.specs.Record.{primAt, jointKindAt, lawBy, u16At, doubleAt, endAt}
 use Rattle.records.proofs.NumberLaws.{number-back, last-case}
 
 pub no-nan-bits : (n : ℕ) → n % 0x8000_0000_0000_0000 ≤ 0x7FF0_0000_0000_0000 → T (not (nanBits binary64 n))
@@ -41,11 +41,11 @@ pub last-kind : (n : ℕ) → jointNumber Ball ≤ n → jointKindAt n ≡ Ball
 unfolding jointKindAt
 last-kind n h = last-case jointNumber n 0 _ _ (refl, (refl, (refl, (refl, (refl, refl))))) h
 
-pub law-number : (n : ℕ) (s : List ℕ) (r : ℕ) → n ≤ JOINT → lawNumber (lawBy n s r) ≡ n
+pub law-number : (n : ℕ) (s : List ℕ) (r : ℕ) → n ≤ GEAR → lawNumber (lawBy n s r) ≡ n
 unfolding lawBy
-law-number n s r h = number-back lawNumber n 0 _ _ (refl, (refl, (refl, (refl, (refl, (refl, refl)))))) (omega arith) h
+law-number n s r h = number-back lawNumber n 0 _ _ (refl, (refl, (refl, (refl, (refl, (refl, (refl, refl))))))) (omega arith) h
 
-pub last-law : (n : ℕ) (s : List ℕ) (r : ℕ) → JOINT ≤ n
-    → lawBy n s r ≡ joint (jointKindAt (byteAt s (r + 1))) (flagAt s (r + 2)) (doubleAt s (r + 8)) (doubleAt s (r + 16))
+pub last-law : (n : ℕ) (s : List ℕ) (r : ℕ) → GEAR ≤ n
+    → lawBy n s r ≡ gear (u16At s (r + 4)) (u16At s (r + 6)) (doubleAt s (r + 16)) (endAt s (r + 192))
 unfolding lawBy
-last-law n s r h = last-case lawNumber n 0 _ _ (refl, (refl, (refl, (refl, (refl, (refl, refl)))))) h
+last-law n s r h = last-case lawNumber n 0 _ _ (refl, (refl, (refl, (refl, (refl, (refl, (refl, refl))))))) h

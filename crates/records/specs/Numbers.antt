@@ -1,5 +1,5 @@
 -- The number that stands in a sheet's bytes for each case of an enum. Document 01, "The sheet": the laws in `Law`'s order, the kinds of joint in `JointKind`'s, the
--- primitives, flags and bodies. What is read, what is tested and what reading gives back all go by these numbers. Definitions only.
+-- primitives, flags and bodies; document 02, 1/14, for the gear. What is read, what is tested and what reading gives back all go by these numbers. Definitions only.
 use Prim.Native.Nat.{ℕ}
 use mathlib.Core.Bool.{Bool, true, false, cond}
 use mathlib.Core.List.{List, [], _∷_}
@@ -7,7 +7,7 @@ use mathlib.Core.Option.{Option, none, some}
 use lib.Dec.{eqb}
 use lib.Ieee.{Float}
 use Rattle.relations.specs.Geometry.{Geo, plane, line, point, circle}
-use Rattle.relations.specs.Model.{Law, mate, flush, angle, insert, tangent, symmetry, joint}
+use Rattle.relations.specs.Model.{Law, mate, flush, angle, insert, tangent, symmetry, joint, gear}
 use Rattle.relations.specs.declared.model.JointKind.{JointKind}
 use Rattle.relations.specs.declared.model.JointKind.the-variants.{Rigid, Revolute, Slider, Cylindrical, Planar, Ball}
 
@@ -34,6 +34,9 @@ SYMMETRY = 5
 abbrev pub JOINT : ℕ
 JOINT = 6
 
+abbrev pub GEAR : ℕ
+GEAR = 7
+
 abbrev pub lawNumber : Law → ℕ
 lawNumber (mate off) = MATE
 lawNumber (flush off) = FLUSH
@@ -42,6 +45,7 @@ lawNumber (insert off aligned) = INSERT
 lawNumber (tangent off inside) = TANGENT
 lawNumber (symmetry p) = SYMMETRY
 lawNumber (joint kind flip off want) = JOINT
+lawNumber (gear teethA teethB want carrier) = GEAR
 
 -- ---- the kinds of joint
 

@@ -1,5 +1,5 @@
--- How a body and a relation stand in bytes, field by field: which byte holds what, and which law and primitive uses which field. Document 01, "The sheet". Little
--- endian. The numbers of the cases stand in Numbers.antt. Definitions only.
+-- How a body and a relation stand in bytes, field by field: which byte holds what, and which law and primitive uses which field. Document 01, "The sheet"; document
+-- 02, 1/14, for the gear. Little endian. The numbers of the cases stand in Numbers.antt. Definitions only.
 use Prim.Native.Nat.{ℕ, zero, suc, _+_, _*_}
 use mathlib.Core.Bool.{Bool, true, not, _&&_, _||_}
 use mathlib.Core.List.{List, [], _∷_}
@@ -10,10 +10,10 @@ use lib.Ieee.{Float, binary64, ofBits}
 use Rattle.vectors.specs.Vec.{Vec}
 use Rattle.vectors.specs.Space.{Frame}
 use Rattle.relations.specs.Geometry.{Geo, plane, line, point, circle}
-use Rattle.relations.specs.Model.{Body, End, Law, mate, flush, angle, insert, tangent, symmetry, joint, Rel}
+use Rattle.relations.specs.Model.{Body, End, Law, mate, flush, angle, insert, tangent, symmetry, joint, gear, Rel}
 use Rattle.relations.specs.declared.model.JointKind.{JointKind}
 use Rattle.relations.specs.declared.model.JointKind.the-variants.{Rigid, Revolute, Slider, Cylindrical, Planar, Ball}
-use Rattle.records.specs.Numbers.{MATE, FLUSH, ANGLE, INSERT, TANGENT, SYMMETRY, JOINT, POINT, CIRCLE, lawNumber, jointNumber, primNumber, flagNumber, bodyRefNumber, byNumber}
+use Rattle.records.specs.Numbers.{MATE, FLUSH, ANGLE, INSERT, TANGENT, SYMMETRY, JOINT, GEAR, POINT, CIRCLE, lawNumber, jointNumber, primNumber, flagNumber, bodyRefNumber, byNumber}
 
 -- ---- numbers
 
@@ -63,7 +63,7 @@ abbrev pub usesOffset : ℕ → Bool
 usesOffset law = eqb law MATE || (eqb law FLUSH || (eqb law INSERT || (eqb law TANGENT || eqb law JOINT)))
 
 abbrev pub usesAngle : ℕ → Bool
-usesAngle law = eqb law ANGLE || eqb law JOINT
+usesAngle law = eqb law ANGLE || (eqb law JOINT || eqb law GEAR)
 
 abbrev pub usesReference : ℕ → Bool
 usesReference law = eqb law ANGLE
@@ -72,16 +72,24 @@ usesReference law = eqb law ANGLE
 abbrev pub usesFlag : ℕ → Bool
 usesFlag law = eqb law INSERT || (eqb law TANGENT || eqb law JOINT)
 
--- the joint byte, and the ends' mirrored bytes
+-- the joint byte
 abbrev pub usesJoint : ℕ → Bool
 usesJoint law = eqb law JOINT
+
+-- the mirrored bytes of the ends that the law uses
+abbrev pub usesMirrored : ℕ → Bool
+usesMirrored law = eqb law JOINT || eqb law GEAR
+
+-- the teeth of a and of b
+abbrev pub usesTeeth : ℕ → Bool
+usesTeeth law = eqb law GEAR
 
 abbrev pub usesEndRadius : ℕ → Bool
 usesEndRadius law = eqb law TANGENT
 
--- the third end
-abbrev pub usesPlane : ℕ → Bool
-usesPlane law = eqb law SYMMETRY
+-- the third end: symmetry's plane, or a gear's carrier
+abbrev pub usesThird : ℕ → Bool
+usesThird law = eqb law SYMMETRY || eqb law GEAR
 
 -- by a primitive's number
 abbrev pub usesDirection : ℕ → Bool
@@ -113,7 +121,7 @@ endAt s e =
 unfoldable pub jointKindAt : ℕ → JointKind
 jointKindAt n = byNumber jointNumber n (Rigid ∷ Revolute ∷ Slider ∷ Cylindrical ∷ Planar ∷ []) Ball
 
--- the law by its number, with what it takes of the relation at r: offset, angle, reference, flag, symmetry's plane, joint kind
+-- the law by its number, with what it takes of the relation at r: offset, angle, reference, flag, third end, joint kind, teeth
 unfoldable pub lawBy : ℕ → List ℕ → ℕ → Law
 lawBy n s r =
     byNumber lawNumber n
@@ -123,8 +131,9 @@ lawBy n s r =
     ∷ insert (doubleAt s (r + 8)) (flagAt s (r + 2))
     ∷ tangent (doubleAt s (r + 8)) (flagAt s (r + 2))
     ∷ symmetry (endAt s (r + 192))
+    ∷ joint (jointKindAt (byteAt s (r + 1))) (flagAt s (r + 2)) (doubleAt s (r + 8)) (doubleAt s (r + 16))
     ∷ [])
-    (joint (jointKindAt (byteAt s (r + 1))) (flagAt s (r + 2)) (doubleAt s (r + 8)) (doubleAt s (r + 16)))
+    (gear (u16At s (r + 4)) (u16At s (r + 6)) (doubleAt s (r + 16)) (endAt s (r + 192)))
 
 -- law, then the ends a and b
 unfoldable pub relAt : List ℕ → ℕ → Rel

@@ -165,6 +165,13 @@ fn joint_kind_of(kind: u8) -> JointKind
     }
 }
 
+fn teeth_at(s: &[u8], o: usize) -> u16
+    requires { ⌜ o + 2 ≤ length (now s) ⌝ }
+    ensures { λ r. ⌜ r ≡ spec.u16At (now (s .entry)) o ⌝ }
+{
+    u16_at(s, o) as u16
+}
+
 fn law_at(s: &[u8], r: usize) -> Law
     requires { ⌜ r + 264 ≤ length (now s) ⌝ }
     ensures { λ w. ⌜ lawOf w ≡ spec.lawBy (spec.byteAt (now (s .entry)) r) (now (s .entry)) r ⌝ }
@@ -192,11 +199,17 @@ fn law_at(s: &[u8], r: usize) -> Law
         5 => Law::Symmetry {
             plane: end_at(s, r + 192),
         },
-        _ => Law::Joint {
+        6 => Law::Joint {
             joint: joint_kind_of(s[r + 1]),
             flip: s[r + 2] == 1,
             offset: double_at(s, r + 8),
             angle: double_at(s, r + 16),
+        },
+        _ => Law::Gear {
+            teeth_a: teeth_at(s, r + 4),
+            teeth_b: teeth_at(s, r + 6),
+            angle: double_at(s, r + 16),
+            carrier: end_at(s, r + 192),
         },
     }
 }

@@ -19,7 +19,7 @@ use Rattle.scene.specs.Scene.{sceneIn}
 use Rattle.least_squares.proofs.TableLaws.{length-listOf}
 use Rattle.scene.specs.Scene.{sceneOf, SceneMade}
 use Rattle.least_squares.specs.Lm.{listOf}
-use Rattle.scene.specs.Solve.{startAt, Scene, moves, layoutFrom, unknownsIn, unknowns, posesAt, endPose, planeBody, rowsAt, allRows}
+use Rattle.scene.specs.Solve.{startAt, Scene, moves, layoutFrom, unknownsIn, unknowns, posesAt, endPose, thirdBody, rowsAt, allRows}
 use Rattle.scene.specs.declared.scene.Scene.{Scene as SceneStruct}
 use Rattle.format.specs.Format.{bodiesOf, relationsOf}
 use Rattle.refusals.specs.SceneAt.{sceneAt}
@@ -45,7 +45,7 @@ unknowns-le sc = layout-le (sc .rels) 0 0 (sc .bodies)
 -- seven rows to a relation at the most
 rel-rows-le : (poses : List (Pose Float)) (rel : Rel) → length (rowsAt poses rel) ≤ 7
 rel-rows-le poses rel =
-    rw (residual-length (rel .law) (rel .a) (rel .b) (endPose poses (rel .a .body)) (endPose poses (rel .b .body)) (endPose poses (planeBody (rel .law)))) (row-count-le (rel .law) (rel .a .prim) (rel .b .prim))
+    rw (residual-length (rel .law) (rel .a) (rel .b) (endPose poses (rel .a .body)) (endPose poses (rel .b .body)) (endPose poses (thirdBody (rel .law)))) (row-count-le (rel .law) (rel .a .prim) (rel .b .prim))
 
 rows-more : (a b : List Float) (k : ℕ) → length a ≤ 7 → length b ≤ 7 * k → length (a ++ b) ≤ 7 * suc k
 rows-more a b k h l = simp length-append (omega arith)

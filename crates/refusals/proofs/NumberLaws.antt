@@ -1,4 +1,4 @@
--- The number of a refusal is at most 13: by the tests, each of which gives 0 or its own number. Assumes nothing.
+-- The number of a refusal is at most 14: by the tests, each of which gives 0 or its own number. Assumes nothing.
 use mathlib.Core.Bool.{Bool, true, false, _&&_, _||_, cond}
 use mathlib.Core.List.{List}
 use Prim.Native.Nat.{ℕ, zero, suc, _*_, _≤_}
@@ -7,8 +7,11 @@ use lib.ListN.{length}
 use lib.Dec.{eqb, leb, ltb}
 use Rattle.records.specs.Numbers.{GROUND}
 use Rattle.format.specs.Format.{bodiesOf, relationsOf, bodyStart, relStart}
-use Rattle.format.specs.Faults.{orElse, unless, headerZeros, headerCounts, headerOffsets, headerFault, bodyShape, bodyLimits, bodyFault, relShape, relNames, relLimits, relFault, bodiesFault, relsFault, sheetFault}
+use Rattle.format.specs.Faults.{orElse, unless, headerZeros, headerCounts, headerOffsets, headerFault, bodyShape, bodyLimits, bodyFault, relShape, relTeeth, relNames, relLimits, relFault, bodiesFault, relsFault, sheetFault}
 use Rattle.refusals.specs.Refusals.{dragFault, solveScratch, solveFault, dofScratch, dofFault}
+
+abbrev pub LARGEST : ℕ
+LARGEST = 14
 
 or-else-le : (a b n : ℕ) → a ≤ n → b ≤ n → orElse a b ≤ n
 or-else-le zero b n h k = k
@@ -21,46 +24,47 @@ cond-le false a b n h k = k
 unless-le : (t : Bool) (w n : ℕ) → w ≤ n → unless t w ≤ n
 unless-le t w n h = cond-le t 0 w n (omega arith) h
 
-header-le : (s : List ℕ) → headerFault s ≤ 13
+header-le : (s : List ℕ) → headerFault s ≤ LARGEST
 unfolding headerFault
 header-le s =
-    cond-le (leb 24 (length s)) _ 1 13
-    (cond-le (headerZeros s) _ 2 13 (cond-le (headerCounts s) _ 3 13 (unless-le (headerOffsets s) 4 13 (omega arith)) (omega arith)) (omega arith)) (omega arith)
+    cond-le (leb 24 (length s)) _ 1 LARGEST
+    (cond-le (headerZeros s) _ 2 LARGEST (cond-le (headerCounts s) _ 3 LARGEST (unless-le (headerOffsets s) 4 LARGEST (omega arith)) (omega arith)) (omega arith)) (omega arith)
 
-body-le : (s : List ℕ) (o : ℕ) → bodyFault s o ≤ 13
+body-le : (s : List ℕ) (o : ℕ) → bodyFault s o ≤ LARGEST
 unfolding bodyFault
-body-le s o = cond-le (bodyShape s o) _ 5 13 (unless-le (bodyLimits s o) 7 13 (omega arith)) (omega arith)
+body-le s o = cond-le (bodyShape s o) _ 5 LARGEST (unless-le (bodyLimits s o) 7 LARGEST (omega arith)) (omega arith)
 
-rel-le : (m : ℕ) (s : List ℕ) (r : ℕ) → relFault m s r ≤ 13
+rel-le : (m : ℕ) (s : List ℕ) (r : ℕ) → relFault m s r ≤ LARGEST
 unfolding relFault
 rel-le m s r =
-    cond-le (relShape s r) _ 5 13 (cond-le (relNames m s r) _ 6 13 (unless-le (relLimits s r) 7 13 (omega arith)) (omega arith)) (omega arith)
+    cond-le (relShape s r) _ 5 LARGEST
+    (cond-le (relTeeth s r) _ 14 LARGEST (cond-le (relNames m s r) _ 6 LARGEST (unless-le (relLimits s r) 7 LARGEST (omega arith)) (omega arith)) (omega arith)) (omega arith)
 
-bodies-le : (s : List ℕ) (i : ℕ) → bodiesFault s i ≤ 13
+bodies-le : (s : List ℕ) (i : ℕ) → bodiesFault s i ≤ LARGEST
 unfolding bodiesFault
 bodies-le s zero = omega arith
-bodies-le s (suc i) = or-else-le (bodiesFault s i) _ 13 (bodies-le s i) (body-le s (bodyStart i))
+bodies-le s (suc i) = or-else-le (bodiesFault s i) _ LARGEST (bodies-le s i) (body-le s (bodyStart i))
 
-rels-le : (s : List ℕ) (j : ℕ) → relsFault s j ≤ 13
+rels-le : (s : List ℕ) (j : ℕ) → relsFault s j ≤ LARGEST
 unfolding relsFault
 rels-le s zero = omega arith
-rels-le s (suc j) = or-else-le (relsFault s j) _ 13 (rels-le s j) (rel-le (bodiesOf s) s (relStart (bodiesOf s) j))
+rels-le s (suc j) = or-else-le (relsFault s j) _ LARGEST (rels-le s j) (rel-le (bodiesOf s) s (relStart (bodiesOf s) j))
 
-pub sheet-le : (s : List ℕ) → sheetFault s ≤ 13
+pub sheet-le : (s : List ℕ) → sheetFault s ≤ LARGEST
 unfolding sheetFault
-sheet-le s = or-else-le (headerFault s) _ 13 (header-le s) (or-else-le (bodiesFault s (bodiesOf s)) _ 13 (bodies-le s (bodiesOf s)) (rels-le s (relationsOf s)))
+sheet-le s = or-else-le (headerFault s) _ LARGEST (header-le s) (or-else-le (bodiesFault s (bodiesOf s)) _ LARGEST (bodies-le s (bodiesOf s)) (rels-le s (relationsOf s)))
 
-pub solve-le : (s : List ℕ) (drag scratch poses frames errors : ℕ) → solveFault s drag scratch poses frames errors ≤ 13
+pub solve-le : (s : List ℕ) (drag scratch poses frames errors : ℕ) → solveFault s drag scratch poses frames errors ≤ LARGEST
 unfolding solveFault
 solve-le s drag scratch poses frames errors =
-    or-else-le (sheetFault s) _ 13 (sheet-le s)
-    (or-else-le (dragFault s drag) _ 13 (unless-le (eqb drag GROUND || ltb drag (bodiesOf s)) 8 13 (omega arith))
-    (or-else-le (unless (leb (12 * bodiesOf s) poses && (leb (12 * bodiesOf s) frames && leb (relationsOf s) errors)) 10) _ 13
-    (unless-le (leb (12 * bodiesOf s) poses && (leb (12 * bodiesOf s) frames && leb (relationsOf s) errors)) 10 13 (omega arith))
-    (unless-le (leb (solveScratch s) scratch) 9 13 (omega arith))))
+    or-else-le (sheetFault s) _ LARGEST (sheet-le s)
+    (or-else-le (dragFault s drag) _ LARGEST (unless-le (eqb drag GROUND || ltb drag (bodiesOf s)) 8 LARGEST (omega arith))
+    (or-else-le (unless (leb (12 * bodiesOf s) poses && (leb (12 * bodiesOf s) frames && leb (relationsOf s) errors)) 10) _ LARGEST
+    (unless-le (leb (12 * bodiesOf s) poses && (leb (12 * bodiesOf s) frames && leb (relationsOf s) errors)) 10 LARGEST (omega arith))
+    (unless-le (leb (solveScratch s) scratch) 9 LARGEST (omega arith))))
 
-pub dof-le : (s : List ℕ) (scratch freedoms : ℕ) → dofFault s scratch freedoms ≤ 13
+pub dof-le : (s : List ℕ) (scratch freedoms : ℕ) → dofFault s scratch freedoms ≤ LARGEST
 unfolding dofFault
 dof-le s scratch freedoms =
-    or-else-le (sheetFault s) _ 13 (sheet-le s)
-    (or-else-le (unless (leb (29 * bodiesOf s) freedoms) 10) _ 13 (unless-le (leb (29 * bodiesOf s) freedoms) 10 13 (omega arith)) (unless-le (leb (dofScratch s) scratch) 9 13 (omega arith)))
+    or-else-le (sheetFault s) _ LARGEST (sheet-le s)
+    (or-else-le (unless (leb (29 * bodiesOf s) freedoms) 10) _ LARGEST (unless-le (leb (29 * bodiesOf s) freedoms) 10 LARGEST (omega arith)) (unless-le (leb (dofScratch s) scratch) 9 LARGEST (omega arith)))

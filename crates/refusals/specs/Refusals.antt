@@ -1,5 +1,5 @@
 -- Which number a call gives, or 0 for none, for any bytes, numbers and lengths of lent memory. Document 01, "What a call says", the table of refusals and the order of
--- its tests: 1 to 7 of the sheet, then 13, 8, 11, 12, 10, 9. Definitions only.
+-- its tests: 1 to 7 of the sheet, and document 02's 14, then 13, 8, 11, 12, 10, 9. Definitions only.
 use Prim.Native.Nat.{ℕ, _+_, _*_}
 use mathlib.Core.Bool.{_&&_, _||_}
 use mathlib.Core.List.{List}

@@ -1,4 +1,4 @@
-// How many doubles of scratch `solve` and `dof` need, for a sheet that passes tests 1 to 7.
+// How many doubles of scratch `solve` and `dof` need, for a sheet that passes tests 1 to 7 and 14.
 
 use records::record::u16_at;
 use scene::scene::Scene;

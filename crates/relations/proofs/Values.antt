@@ -9,9 +9,10 @@ use Rattle.vectors.specs.Space.{Frame, frame}
 use Rattle.vectors.specs.Math.{Mat, mat}
 use Rattle.relations.specs.declared.model.Pose.{Pose as PoseStruct}
 use Rattle.relations.specs.declared.rows.JointAt.{JointAt as JointStruct}
+use Rattle.relations.specs.declared.rows.CarrierAt.{CarrierAt as CarrierStruct}
 use Rattle.relations.specs.Geometry.{Pose}
 use Rattle.relations.specs.Model.{pose}
-use Rattle.relations.specs.Rows.{JointAt, jointOf}
+use Rattle.relations.specs.Rows.{JointAt, jointOf, CarrierAt, carrierOf}
 
 abbrev pub vec3 : Vec Float → Vec3
 vec3 v = record { x = v .x; y = v .y; z = v .z }
@@ -36,3 +37,6 @@ pose-is e = ap (λ n. record { r = m3 (n .r); t = vec3 (n .t) }) e
 
 pub joint-is : {a : JointStruct} {n : JointAt} → jointOf a ≡ n → a ≡ record { o = vec3 (n .o); x = vec3 (n .x); z = vec3 (n .z) }
 joint-is e = ap (λ n. record { o = vec3 (n .o); x = vec3 (n .x); z = vec3 (n .z) }) e
+
+pub carrier-is : {a : CarrierStruct} {n : CarrierAt} → carrierOf a ≡ n → a ≡ record { x = vec3 (n .x); y = vec3 (n .y) }
+carrier-is e = ap (λ n. record { x = vec3 (n .x); y = vec3 (n .y) }) e

@@ -1,4 +1,5 @@
--- What the solver works on: `Body`, `Law`, `End` and `Rel` of solve.rs, with `JointKind` of model.rs. Document 01, "The train of files", item 6. Definitions only.
+-- What the solver works on: `Body`, `Law`, `End` and `Rel` of solve.rs, with `JointKind` of model.rs. Document 01, "The train of files", item 6; document 02, 1/14, for
+-- the gear, which the Rust has not. Definitions only.
 use Prim.Native.Nat.{ℕ}
 use mathlib.Core.Bool.{Bool}
 use mathlib.Core.Option.{Option, none, some}
@@ -12,7 +13,7 @@ use Rattle.relations.specs.declared.model.BodyRef.{BodyRef}
 use Rattle.relations.specs.declared.model.BodyRef.the-variants.{Ground, Of}
 use Rattle.relations.specs.declared.model.End.{End as EndStruct}
 use Rattle.relations.specs.declared.model.Law.{Law as LawEnum}
-use Rattle.relations.specs.declared.model.Law.the-variants.{Mate, Flush, Angle, Insert, Tangent, Symmetry, Joint}
+use Rattle.relations.specs.declared.model.Law.the-variants.{Mate, Flush, Angle, Insert, Tangent, Symmetry, Joint, Gear}
 use Rattle.relations.specs.declared.model.Rel.{Rel as RelStruct}
 use Rattle.relations.specs.declared.model.Body.{Body as BodyStruct}
 use Rattle.relations.specs.declared.model.Pose.{Pose as PoseStruct}
@@ -38,6 +39,8 @@ pub data Law : Type 0 where
   tangent : Float → Bool → Law
   symmetry : End → Law
   joint : JointKind → Bool → Float → Float → Law
+  -- the teeth of a and of b, the angle, and the carrier, in which the two wheels turn
+  gear : ℕ → ℕ → Float → End → Law
 
 pub record Rel : Type 0 where
   pub law : Law
@@ -61,6 +64,7 @@ lawOf (Insert offset aligned) = insert offset aligned
 lawOf (Tangent offset inside) = tangent offset inside
 lawOf (Symmetry plane) = symmetry (endOf plane)
 lawOf (Joint kind flip offset want) = joint kind flip offset want
+lawOf (Gear teethA teethB want carrier) = gear teethA teethB want (endOf carrier)
 
 abbrev pub relOf : RelStruct → Rel
 relOf r = record { law = lawOf (r .law); a = endOf (r .a); b = endOf (r .b) }

@@ -1,6 +1,6 @@
 -- The rows of every law and pair: `residual` of solve.rs, with `tangent_gap`, `perp`, `wrap`, `turn`, `mate_prim` and `joint_frame`. Document 01, "The train of
--- files", item 6, and "The words of demand 3". What rows of mate, flush, insert, symmetry and a tangent with a plane are made of is written once over the record
--- of operations, for doubles and for fractions. Definitions only.
+-- files", item 6, and "The words of demand 3"; document 02, 1/14, for the gear's row, which the Rust has not. What rows of mate, flush, insert, symmetry and a tangent
+-- with a plane are made of is written once over the record of operations, for doubles and for fractions. Definitions only.
 use Prim.Native.Nat.{ℕ}
 use mathlib.Core.Bool.{Bool, true, false, _||_, cond}
 use mathlib.Core.List.{List, [], _∷_}
@@ -9,18 +9,19 @@ use lib.Dec.{ltb}
 use lib.ListN.{length, take, getD}
 use lib.Ieee.{Float, binary64, add, sub, mul, neg, le, ofBits}
 use Rattle.numbers.specs.Ops.{Ops, doubles}
-use Rattle.numbers.specs.Double.{zero64, one64, abs, remEuclid}
+use Rattle.numbers.specs.Double.{zero64, one64, ofWhole, abs, remEuclid}
 use Rattle.numbers.specs.MaxAbs.{maxAbsStep}
 use Rattle.arcs.specs.Arcs.{arctangent}
 use Rattle.vectors.specs.Vec.{Vec, vec, zeroV, addV, subV, scaleV, dot, cross, len}
 use Rattle.vectors.specs.Space.{Frame}
 use Rattle.vectors.specs.Math.{Mat, apply, identity, PI}
 use Rattle.relations.specs.Geometry.{Geo, plane, line, point, circle, Pose, vecOf, poseOf, place, placed, directionOf, jointFrame}
-use Rattle.relations.specs.Model.{End, Law, mate, flush, angle, insert, tangent, symmetry, joint, Rel}
+use Rattle.relations.specs.Model.{End, Law, mate, flush, angle, insert, tangent, symmetry, joint, gear, Rel}
 use Rattle.relations.specs.declared.rows.Rows.{Rows}
 use Rattle.relations.specs.declared.rows.Pair.{Pair as PairEnum}
 use Rattle.relations.specs.declared.rows.Pair.the-variants.{Planes, Lines, Points, PlanePoint, LinePoint, PlaneLine, Other}
 use Rattle.relations.specs.declared.rows.JointAt.{JointAt as JointStruct}
+use Rattle.relations.specs.declared.rows.CarrierAt.{CarrierAt as CarrierStruct}
 use Rattle.relations.specs.declared.model.JointKind.{JointKind}
 use Rattle.relations.specs.declared.model.JointKind.the-variants.{Rigid, Revolute, Slider, Cylindrical, Planar, Ball}
 
@@ -198,6 +199,7 @@ module _ {C : Type 0} (o : Ops C) where
   formulaRows (symmetry p) a b qa qb qs =
       symmetryRows (placed o (poseOf o qs) (p .prim)) (matePrim (placed o (poseOf o qa) (a .prim))) (matePrim (placed o (poseOf o qb) (b .prim)))
   formulaRows (joint kind flip off want) a b qa qb qs = []
+  formulaRows (gear teethA teethB want carrier) a b qa qb qs = []
 
 -- ---- the rows that doubles alone have
 
@@ -280,6 +282,33 @@ jointRows Cylindrical flip off want a b = push3 (axesApart flip a b) (push3 (off
 jointRows Planar flip off want a b = push3 (axesApart flip a b) (gap doubles (b .o) (a .o) (a .z) off ∷ [])
 jointRows Ball flip off want a b = push3 (subV doubles (b .o) (a .o)) []
 
+-- ---- meshing wheels
+
+-- a gear's carrier in the assembly: X and Y of its joint frame
+pub record CarrierAt : Type 0 where
+  pub x : Vec Float
+  pub y : Vec Float
+
+abbrev pub carrierOf : CarrierStruct → CarrierAt
+carrierOf c = record { x = vec (c .x); y = vec (c .y) }
+
+unfoldable pub carrierAt : End → Pose Float → CarrierAt
+carrierAt e q =
+    let f = jointFrame (e .prim) (e .mirrored) in
+    record { x = apply doubles (q .r) (f .x); y = apply doubles (q .r) (f .y) }
+
+-- θ of a wheel, how far it is turned in its carrier: the angle at which the wheel's joint X stands between the carrier's X and Y
+unfoldable pub wheelTurn : JointAt → CarrierAt → Float
+wheelTurn w c = arctangent (dot doubles (w .x) (c .y)) (dot doubles (w .x) (c .x))
+
+-- teeth a · θa + teeth b · θb, less the angle; the whole difference is wrapped
+unfoldable pub gearRow : ℕ → ℕ → Float → Float → Float → Float
+gearRow teethA teethB want θa θb =
+    wrap (sub binary64 (add binary64 (mul binary64 (ofWhole teethA) θa) (mul binary64 (ofWhole teethB) θb)) want)
+
+unfoldable pub gearRows : ℕ → ℕ → Float → JointAt → JointAt → CarrierAt → List Float
+gearRows teethA teethB want a b c = gearRow teethA teethB want (wheelTurn a c) (wheelTurn b c) ∷ []
+
 -- about the axis r; a point has no direction, and no row
 unfoldable pub angleRows : Float → Vec Float → Option (Vec Float) → Option (Vec Float) → List Float
 angleRows want r (some ua) (some ub) = wrap (sub binary64 (turn ua ub r) want) ∷ []
@@ -291,7 +320,7 @@ unfoldable pub tangentRows : Float → Float → Float → Bool → Geo Float �
 tangentRows ra rb off inside pa pb =
     cond (isPlane pa || isPlane pb) (planeTangentRows doubles (planeGap doubles ra rb off inside) pa pb) (roundTangentRows (roundGap ra rb off inside) pa pb)
 
--- `residual`: the rows of a relation, ends a and b at the poses qa and qb, symmetry's plane at qs
+-- `residual`: the rows of a relation, ends a and b at the poses qa and qb, the third end, symmetry's plane or a gear's carrier, at qs
 unfoldable pub residual : Law → End → End → Pose Float → Pose Float → Pose Float → List Float
 residual (mate off) a b qa qb qs = formulaRows doubles (mate off) a b qa qb qs
 residual (flush off) a b qa qb qs = formulaRows doubles (flush off) a b qa qb qs
@@ -302,6 +331,7 @@ residual (tangent off inside) a b qa qb qs =
     tangentRows (a .radius) (b .radius) off inside (placed doubles qa (a .prim)) (placed doubles qb (b .prim))
 residual (symmetry p) a b qa qb qs = formulaRows doubles (symmetry p) a b qa qb qs
 residual (joint kind flip off want) a b qa qb qs = jointRows kind flip off want (jointAt a qa) (jointAt b qb)
+residual (gear teethA teethB want carrier) a b qa qb qs = gearRows teethA teethB want (jointAt a qa) (jointAt b qb) (carrierAt carrier qs)
 
 -- the ground's pose
 abbrev pub ground : Pose Float

@@ -71,6 +71,13 @@ pub enum Law {
         offset: f64,
         angle: f64,
     },
+    // Two wheels that mesh, and what they turn in.
+    Gear {
+        teeth_a: u16,
+        teeth_b: u16,
+        angle: f64,
+        carrier: End,
+    },
 }
 
 pub struct Rel {

@@ -607,7 +607,55 @@ fn joint(kind: JointKind, flip: bool, offset: f64, want: f64, a: JointAt, b: Joi
     }
 }
 
-// The rows of one relation, its ends at the poses qa and qb, symmetry's plane at qs.
+// A gear's carrier in the assembly: X and Y of its joint frame.
+pub struct CarrierAt {
+    pub x: Vec3,
+    pub y: Vec3,
+}
+
+fn carrier_at(e: End, q: Pose) -> CarrierAt
+    ensures { λ r. ⌜ spec.carrierOf r ≡ spec.carrierAt (endOf e) (pose q) ⌝ }
+{
+    let p = e.prim;
+    let f = p.joint_frame(e.mirrored);
+    let x = f.x;
+    let y = f.y;
+    let r = q.r;
+    CarrierAt {
+        x: r.apply(x),
+        y: r.apply(y),
+    }
+}
+
+// How far a wheel is turned in its carrier.
+fn wheel_turn(w: JointAt, c: CarrierAt) -> f64
+    ensures { λ r. ⌜ r ≡ spec.wheelTurn (spec.jointOf w) (spec.carrierOf c) ⌝ }
+{
+    let xw = w.x;
+    let x = c.x;
+    let y = c.y;
+    arcs::arc::arctangent(xw.dot(y), xw.dot(x))
+}
+
+// The teeth of each wheel times its turn, added, less the angle; the whole difference is wrapped.
+fn gear_row(na: u16, nb: u16, want: f64, ta: f64, tb: f64) -> f64
+    ensures { λ r. ⌜ r ≡ spec.gearRow na nb want ta tb ⌝ }
+{
+    let a = numbers::of_u16(na);
+    let b = numbers::of_u16(nb);
+    wrap(a * ta + b * tb - want)
+}
+
+// A wheel a of na teeth and a wheel b of nb.
+fn gear(na: u16, nb: u16, want: f64, a: JointAt, b: JointAt, c: CarrierAt) -> Rows
+    ensures { λ r. ⌜ r ≡ spec.pack (spec.gearRows na nb want (spec.jointOf a) (spec.jointOf b) (spec.carrierOf c)) ⌝ }
+{
+    let ta = wheel_turn(a, c);
+    let tb = wheel_turn(b, c);
+    Rows::one(gear_row(na, nb, want, ta, tb))
+}
+
+// The rows of one relation, its ends at the poses qa and qb, the third end, symmetry's plane or a gear's carrier, at qs.
 pub fn residual(rel: Rel, qa: Pose, qb: Pose, qs: Pose) -> Rows
     ensures { λ r. ⌜ r ≡ spec.pack (spec.residual (lawOf (rel .law)) (endOf (rel .a)) (endOf (rel .b)) (pose qa) (pose qb) (pose qs)) ⌝ }
 {
@@ -635,5 +683,15 @@ pub fn residual(rel: Rel, qa: Pose, qb: Pose, qs: Pose) -> Rows
             offset,
             angle: want,
         } => joint(kind, flip, offset, want, joint_at(a, qa), joint_at(b, qb)),
+        Law::Gear {
+            teeth_a,
+            teeth_b,
+            angle: want,
+            carrier,
+        } => {
+            let ja = joint_at(a, qa);
+            let jb = joint_at(b, qb);
+            gear(teeth_a, teeth_b, want, ja, jb, carrier_at(carrier, qs))
+        }
     }
 }

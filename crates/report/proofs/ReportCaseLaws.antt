@@ -12,7 +12,7 @@ unfolding digits placesIn countDigit lines ofBits toBits eq size reportOf number
 report-cases =
     record {
       worked-example = refl;
-      refusal-thirteen = refl;
+      refusal-fourteen = refl;
       relation-root-of-two = refl;
       body-sixty-three = refl;
       nothing-listed = refl;

@@ -14,7 +14,7 @@ use Rattle.vectors.specs.Vec.{Vec, zeroV, addV, subV}
 use Rattle.vectors.specs.Space.{Frame}
 use Rattle.vectors.specs.Math.{apply, mulM, exp, frameOf}
 use Rattle.relations.specs.Geometry.{Pose, frameOr}
-use Rattle.relations.specs.Model.{Body, End, Law, mate, flush, angle, insert, tangent, symmetry, joint, Rel, poseOfFrame}
+use Rattle.relations.specs.Model.{Body, End, Law, mate, flush, angle, insert, tangent, symmetry, joint, gear, Rel, poseOfFrame}
 use Rattle.relations.specs.Rows.{residual, ground}
 use Rattle.least_squares.specs.Lm.{listOf, inverseWeight, Outcome, run}
 
@@ -28,19 +28,20 @@ abbrev pub isBody : Option ℕ → ℕ → Bool
 isBody none i = false
 isBody (some k) i = eqb k i
 
--- the body of symmetry's plane
-unfoldable pub planeBody : Law → Option ℕ
-planeBody (mate off) = none
-planeBody (flush off) = none
-planeBody (angle want reference) = none
-planeBody (insert off aligned) = none
-planeBody (tangent off inside) = none
-planeBody (symmetry p) = p .body
-planeBody (joint kind flip off want) = none
+-- the body of the third end: symmetry's plane, or a gear's carrier
+unfoldable pub thirdBody : Law → Option ℕ
+thirdBody (mate off) = none
+thirdBody (flush off) = none
+thirdBody (angle want reference) = none
+thirdBody (insert off aligned) = none
+thirdBody (tangent off inside) = none
+thirdBody (symmetry p) = p .body
+thirdBody (joint kind flip off want) = none
+thirdBody (gear teethA teethB want carrier) = carrier .body
 
 -- an end that the relation uses carries the number i
 unfoldable pub names : Rel → ℕ → Bool
-names rel i = isBody (rel .a .body) i || (isBody (rel .b .body) i || isBody (planeBody (rel .law)) i)
+names rel i = isBody (rel .a .body) i || (isBody (rel .b .body) i || isBody (thirdBody (rel .law)) i)
 
 -- A body is named when an end that some relation uses carries its number (document 01's term).
 unfoldable pub named : List Rel → ℕ → Bool
@@ -106,7 +107,7 @@ endPose poses (some i) = getD poses i ground
 -- the rows of a relation at these poses
 abbrev pub rowsAt : List (Pose Float) → Rel → List Float
 rowsAt poses rel =
-    residual (rel .law) (rel .a) (rel .b) (endPose poses (rel .a .body)) (endPose poses (rel .b .body)) (endPose poses (planeBody (rel .law)))
+    residual (rel .law) (rel .a) (rel .b) (endPose poses (rel .a .body)) (endPose poses (rel .b .body)) (endPose poses (thirdBody (rel .law)))
 
 -- `residuals`: the rows of all relations, in order
 unfoldable pub allRows : List (Pose Float) → List Rel → List Float

@@ -169,9 +169,9 @@ fn end_pose(s: &[f64], p: usize, m: usize, place: BodyRef) -> Pose
     }
 }
 
-// What symmetry's plane belongs to.
-fn plane_body(law: Law) -> BodyRef
-    ensures { λ r. ⌜ bodyNumber r ≡ solve.planeBody (lawOf law) ⌝ }
+// What the third end belongs to, symmetry's plane or a gear's carrier.
+fn third_body(law: Law) -> BodyRef
+    ensures { λ r. ⌜ bodyNumber r ≡ solve.thirdBody (lawOf law) ⌝ }
 {
     match law {
         Law::Mate { offset: _ } => BodyRef::Ground,
@@ -195,6 +195,12 @@ fn plane_body(law: Law) -> BodyRef
             offset: _,
             angle: _,
         } => BodyRef::Ground,
+        Law::Gear {
+            teeth_a: _,
+            teeth_b: _,
+            angle: _,
+            carrier,
+        } => carrier.body,
     }
 }
 
@@ -210,7 +216,7 @@ pub fn rel_rows(s: &[f64], p: usize, m: usize, rel: Rel) -> Rows
     let pb = b.body;
     let qa = end_pose(s, p, m, pa);
     let qb = end_pose(s, p, m, pb);
-    let qs = end_pose(s, p, m, plane_body(law));
+    let qs = end_pose(s, p, m, third_body(law));
     residual(rel, qa, qb, qs)
 }
 
@@ -387,7 +393,7 @@ pub fn names(rel: Rel, i: usize) -> bool
     if is_body(pb, i) {
         return true;
     }
-    is_body(plane_body(law), i)
+    is_body(third_body(law), i)
 }
 
 fn named(sheet: &[u8], rels: usize, k: usize, i: usize) -> bool

@@ -28,7 +28,7 @@ use Rattle.sheet.proofs.SolvingLaws.{passes}
 
 -- ---- what an accepted call says
 
--- the sheet passes tests 1 to 7, and what is lent is long enough
+-- the sheet passes tests 1 to 7 and 14, and what is lent is long enough
 pub record Accepted (s : List ℕ) (scratch freedoms : ℕ) : Type 0 where
   pub sheet : sheetFault s ≡ 0
   pub scratch-long : dofScratch s ≤ scratch

@@ -22,7 +22,7 @@ use Rattle.closeness.specs.RowBound.{smallGeo, smallEnd, smallLaw, smallRel}
 use Rattle.least_squares.proofs.TableLaws.{length-listOf, getD-listOf}
 use Rattle.format.specs.Format.{bodiesOf, relationsOf, relStart}
 use Rattle.refusals.specs.SceneAt.{sceneAt}
-use Rattle.format.specs.Faults.{orElse, endLimits, relShape, relNames, relLimits, headerFault, bodiesFault, relFault, relsFault, sheetFault}
+use Rattle.format.specs.Faults.{orElse, endLimits, relShape, relTeeth, relNames, relLimits, headerFault, bodiesFault, relFault, relsFault, sheetFault}
 use Rattle.format.proofs.RefusalLaws.{none-of}
 
 -- ---- from the tests to the limits of the row bound
@@ -56,7 +56,8 @@ module _ (s : List ℕ) (r : ℕ) where
   law-small n off want reference p =
       let turned = both (within THOUSAND (doubleAt s (r + 16))) (withinV UNIT-LIMIT (vecAt s (r + 24))) want reference in
       let joined = both (within THOUSAND (doubleAt s (r + 8))) (within THOUSAND (doubleAt s (r + 16))) off want in
-      each-case lawNumber n (λ l. T (smallLaw l)) _ _ ((λ q. off), ((λ q. off), ((λ q. turned), ((λ q. off), ((λ q. off), ((λ q. p), joined))))))
+      let meshed = both (within THOUSAND (doubleAt s (r + 16))) (smallEnd (endAt s (r + 192))) want p in
+      each-case lawNumber n (λ l. T (smallLaw l)) _ _ ((λ q. off), ((λ q. off), ((λ q. turned), ((λ q. off), ((λ q. off), ((λ q. p), ((λ q. joined), meshed)))))))
 
   pub rel-small : relLimits s r ≡ true → smallRel (relAt s r) ≡ true
   unfolding relLimits smallRel relAt
@@ -75,11 +76,12 @@ module _ (s : List ℕ) (r : ℕ) where
 
 -- ---- every relation of the sheet
 
-last-test : (a b c : Bool) → _≡_ {A = ℕ} (cond a (cond b (cond c 0 7) 6) 5) 0 → c ≡ true
-last-test true true true h = refl
-last-test true true false h = absurd (let z : _≡_ {A = ℕ} 7 0 = h in omega arith)
-last-test true false c h = absurd (let z : _≡_ {A = ℕ} 6 0 = h in omega arith)
-last-test false b c h = absurd (let z : _≡_ {A = ℕ} 5 0 = h in omega arith)
+last-test : (a t b c : Bool) → _≡_ {A = ℕ} (cond a (cond t (cond b (cond c 0 7) 6) 14) 5) 0 → c ≡ true
+last-test true true true true h = refl
+last-test true true true false h = absurd (let z : _≡_ {A = ℕ} 7 0 = h in omega arith)
+last-test true true false c h = absurd (let z : _≡_ {A = ℕ} 6 0 = h in omega arith)
+last-test true false b c h = absurd (let z : _≡_ {A = ℕ} 14 0 = h in omega arith)
+last-test false t b c h = absurd (let z : _≡_ {A = ℕ} 5 0 = h in omega arith)
 
 pub rel-passes : (s : List ℕ) (k : ℕ) → relsFault s k ≡ 0 → (j : ℕ) → j < k → relFault (bodiesOf s) s (relStart (bodiesOf s) j) ≡ 0
 unfolding relsFault
@@ -98,7 +100,7 @@ rel-limits s h j l =
     let p = none-of (headerFault s) (orElse (bodiesFault s (bodiesOf s)) (relsFault s (relationsOf s))) h .1 in
     let q = none-of (bodiesFault s (bodiesOf s)) (relsFault s (relationsOf s)) p .1 in
     let r = relStart (bodiesOf s) j in
-    last-test (relShape s r) (relNames (bodiesOf s) s r) (relLimits s r) (rel-passes s (relationsOf s) q j l)
+    last-test (relShape s r) (relTeeth s r) (relNames (bodiesOf s) s r) (relLimits s r) (rel-passes s (relationsOf s) q j l)
 
 -- relation j of the scene is the one that the tests read
 pub rel-is : (s : List ℕ) (j : ℕ) (d : Rel) → j < relationsOf s → getD (sceneAt s .rels) j d ≡ relAt s (relStart (bodiesOf s) j)

@@ -50,7 +50,7 @@ and-right : (a b : Bool) → a && b ≡ true → b ≡ true
 and-right true b h = h
 and-right false b h = cc
 
--- the sheet passes tests 1 to 7, and what is lent is long enough
+-- the sheet passes tests 1 to 7 and 14, and what is lent is long enough
 pub record Accepted (s : List ℕ) (scratch poses frames errors : ℕ) : Type 0 where
   pub sheet : sheetFault s ≡ 0
   pub scratch-long : solveScratch s ≤ scratch

@@ -28,7 +28,7 @@ ghost use Rattle.format.specs.Format.{bodiesOf, relStart};
 ghost use Rattle.refusals.specs.Refusals as spec;
 ghost use Rattle.sheet.specs.Calls as calls;
 
-// Tests 1 to 7, then 13.
+// Tests 1 to 7 and 14, then 13.
 fn relation_fault(s: &[u8], relation: u16) -> u32
     ensures { λ r. ⌜ r ≡ spec.readingFault (now (s .entry)) relation ⌝ }
 {

@@ -21,7 +21,7 @@ use Rattle.records.specs.Record.{bodyAt, relAt}
 use Rattle.least_squares.specs.Lm.{stepOf, slopeOf, slope}
 use Rattle.least_squares.specs.LmPosts.{Copied}
 use Rattle.least_squares.specs.Memory.{part}
-use Rattle.scene.specs.Solve.{Scene, isBody, planeBody, names, moves, layoutFrom, layout, unknownsIn, three, movedPose, poseAt, posesFrom, posesAt, endPose, rowsAt, allRows, rowsOf}
+use Rattle.scene.specs.Solve.{Scene, isBody, thirdBody, names, moves, layoutFrom, layout, unknownsIn, three, movedPose, poseAt, posesFrom, posesAt, endPose, rowsAt, allRows, rowsOf}
 use Rattle.scene.specs.Scene.{firstUnknown, sceneOf, Laid, bodyPose, relRows, poseDoubles, posesDoubles, posesIn, Put, PutNext, Column, SlopeColumn}
 use Rattle.scene.specs.declared.scene.Scene.{Scene as SceneStruct}
 use Rattle.least_squares.proofs.MemoryLaws.{part-at, part-set, part-set-below, part-part, part-same, part-below, kept-refl, kept-set, kept-part-below, kept-part-above, kept-at-below, kept-at-above}
@@ -50,11 +50,11 @@ unfolding names
 rows-other poses i q rel e =
     let k = isBody (rel .a .body) i in
     let l = isBody (rel .b .body) i in
-    let m = isBody (planeBody (rel .law)) i in
+    let m = isBody (thirdBody (rel .law)) i in
     let r = or-right k (l || m) e in
     let a = end-other poses i q (rel .a .body) (or-left k (l || m) e) in
     let b = end-other poses i q (rel .b .body) (or-left l m r) in
-    let d = end-other poses i q (planeBody (rel .law)) (or-right l m r) in
+    let d = end-other poses i q (thirdBody (rel .law)) (or-right l m r) in
     λ z. residual (rel .law) (rel .a) (rel .b) (a z) (b z) (d z)
 
 -- ---- a body's pose depends on its own unknowns only

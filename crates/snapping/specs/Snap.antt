@@ -1,4 +1,5 @@
--- `Motion` and `snap` of solve.rs: the motion of b's body that makes one relation hold by itself. Document 01, "The train of files", item 6. Definitions only.
+-- `Motion` and `snap` of solve.rs: the motion of b's body that makes one relation hold by itself. Document 01, "The train of files", item 6;
+-- document 02, 1/14, for the gear, whose snapping leaves the wheel where it stands. Definitions only.
 use mathlib.Core.Bool.{Bool, true, false, cond}
 use mathlib.Core.Option.{Option, none, some}
 use lib.Ieee.{Float, binary64, sub, le}
@@ -8,7 +9,7 @@ use Rattle.vectors.specs.Vec.{Vec, vec, zeroV, addV, subV, scaleV, negV, dot}
 use Rattle.vectors.specs.Space.{Frame}
 use Rattle.vectors.specs.Math.{Mat, mat, identity, apply, mulM, transpose, exp, rotationBetween, ofFrame, frameOf}
 use Rattle.relations.specs.Geometry.{Geo, plane, line, point, circle, Pose, place, placed, directionOf, frameOr}
-use Rattle.relations.specs.Model.{End, Law, mate, flush, angle, insert, tangent, symmetry, joint, Rel}
+use Rattle.relations.specs.Model.{End, Law, mate, flush, angle, insert, tangent, symmetry, joint, gear, Rel}
 use Rattle.relations.specs.Rows.{Pair, planes, lines, points, planePoint, linePoint, planeLine, other, pair, matePrim, perp, turn, planeGap, JointAt, jointAt}
 use Rattle.snapping.specs.declared.snap.Motion.{Motion as MotionStruct}
 use Rattle.relations.specs.declared.model.JointKind.{JointKind}
@@ -75,6 +76,7 @@ targetDir (insert off aligned) pa pb da db = some (along aligned da)
 targetDir (tangent off inside) pa pb da db = none
 targetDir (symmetry p) pa pb da db = none
 targetDir (joint kind flip off want) pa pb da db = jointTarget kind flip da
+targetDir (gear teethA teethB want carrier) pa pb da db = none
 
 -- the directions that are turned onto each other: a joint's are its frames' Z
 unfoldable pub snapDir : Law → Geo Float → JointAt → Option (Vec Float)
@@ -85,6 +87,7 @@ snapDir (insert off aligned) p j = directionOf p
 snapDir (tangent off inside) p j = directionOf p
 snapDir (symmetry s) p j = directionOf p
 snapDir (joint kind flip off want) p j = some (j .z)
+snapDir (gear teethA teethB want carrier) p j = none
 
 unfoldable pub turnTo : Vec Float → Option (Vec Float) → Mat Float
 turnTo db (some to) = rotationBetween db to
@@ -116,6 +119,7 @@ snapTurn (insert off aligned) ja jb r = r
 snapTurn (tangent off inside) ja jb r = r
 snapTurn (symmetry s) ja jb r = r
 snapTurn (joint kind flip off want) ja jb r = jointTurn kind want ja jb r
+snapTurn (gear teethA teethB want carrier) ja jb r = r
 
 -- ---- sliding
 
@@ -198,6 +202,7 @@ slide (insert off aligned) ra rb pa pb ja ob = insertSlide off pa pb
 slide (tangent off inside) ra rb pa pb ja ob = tangentSlide (planeGap doubles ra rb off inside) pa pb
 slide (symmetry s) ra rb pa pb ja ob = zeroV
 slide (joint kind flip off want) ra rb pa pb ja ob = jointSlide kind off (ja .o) (ja .z) ob
+slide (gear teethA teethB want carrier) ra rb pa pb ja ob = zeroV
 
 -- b's direction turned onto a's, then about the joint's axis
 unfoldable pub turning : Law → Geo Float → Geo Float → JointAt → JointAt → Mat Float
@@ -231,6 +236,17 @@ sliding rel qa qb m =
 unfoldable pub slid : Motion → Vec Float → Motion
 slid m v = record { r = m .r; t = addV doubles (m .t) v }
 
--- `snap`: turned, then slid
+unfoldable pub isGear : Law → Bool
+isGear (mate off) = false
+isGear (flush off) = false
+isGear (angle want reference) = false
+isGear (insert off aligned) = false
+isGear (tangent off inside) = false
+isGear (symmetry p) = false
+isGear (joint kind flip off want) = false
+isGear (gear teethA teethB want carrier) = true
+
+-- `snap`: turned, then slid. A gear moves nothing, and its cases above are not asked for.
 unfoldable pub snap : Rel → Pose Float → Pose Float → Vec Float → Motion
-snap rel qa qb center = slid (turned rel qa qb center) (sliding rel qa qb (turned rel qa qb center))
+snap rel qa qb center =
+    cond (isGear (rel .law)) still (slid (turned rel qa qb center) (sliding rel qa qb (turned rel qa qb center)))

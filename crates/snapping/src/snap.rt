@@ -184,6 +184,12 @@ fn target_dir(law: Law, pa: Prim, pb: Prim, da: Vec3, db: Vec3) -> Direction
             offset: _,
             angle: _,
         } => joint_target(joint, flip, da),
+        Law::Gear {
+            teeth_a: _,
+            teeth_b: _,
+            angle: _,
+            carrier: _,
+        } => Direction::Nothing,
     }
 }
 
@@ -216,6 +222,12 @@ fn snap_dir(law: Law, p: Prim, j: JointAt) -> Direction
             let z = j.z;
             Direction::Along(z)
         }
+        Law::Gear {
+            teeth_a: _,
+            teeth_b: _,
+            angle: _,
+            carrier: _,
+        } => Direction::Nothing,
     }
 }
 
@@ -289,6 +301,12 @@ fn snap_turn(law: Law, ja: JointAt, jb: JointAt, r: M3) -> M3
             offset: _,
             angle,
         } => joint_turn(joint, angle, ja, jb, r),
+        Law::Gear {
+            teeth_a: _,
+            teeth_b: _,
+            angle: _,
+            carrier: _,
+        } => r,
     }
 }
 
@@ -522,6 +540,12 @@ fn slide(law: Law, ra: f64, rb: f64, pa: Prim, pb: Prim, ja: JointAt, ob: Vec3) 
             let za = ja.z;
             joint_slide(joint, offset, oa, za, ob)
         }
+        Law::Gear {
+            teeth_a: _,
+            teeth_b: _,
+            angle: _,
+            carrier: _,
+        } => Vec3::ZERO,
     }
 }
 
@@ -562,10 +586,48 @@ fn sliding(rel: Rel, qa: Pose, qb: Pose, m: Motion) -> Vec3
     slide(law, a.radius, b.radius, pa, pb, ja, ob)
 }
 
-// A motion of b's body that makes one relation hold by itself: b's geometry is turned onto a's, then slid into place.
+fn is_gear(law: Law) -> bool
+    ensures { λ r. ⌜ r ≡ spec.isGear (lawOf law) ⌝ }
+{
+    match law {
+        Law::Mate { offset: _ } => false,
+        Law::Flush { offset: _ } => false,
+        Law::Angle {
+            angle: _,
+            reference: _,
+        } => false,
+        Law::Insert {
+            offset: _,
+            aligned: _,
+        } => false,
+        Law::Tangent {
+            offset: _,
+            inside: _,
+        } => false,
+        Law::Symmetry { plane: _ } => false,
+        Law::Joint {
+            joint: _,
+            flip: _,
+            offset: _,
+            angle: _,
+        } => false,
+        Law::Gear {
+            teeth_a: _,
+            teeth_b: _,
+            angle: _,
+            carrier: _,
+        } => true,
+    }
+}
+
+// A motion of b's body that makes one relation hold by itself: b's geometry is turned onto a's, then slid into place. A gear moves nothing.
 pub fn snap(rel: Rel, qa: Pose, qb: Pose, center: Vec3) -> Motion
     ensures { λ w. ⌜ spec.motion w ≡ spec.snap (relOf rel) (pose qa) (pose qb) (vec center) ⌝ }
 {
+    let law = rel.law;
+    if is_gear(law) {
+        return Motion::IDENTITY;
+    }
     let m = turned(rel, qa, qb, center);
     m.slid(sliding(rel, qa, qb, m))
 }

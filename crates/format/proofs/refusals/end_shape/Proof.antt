@@ -8,8 +8,8 @@ use Rattle.format.proofs.refusals.end_shape.Tie as tie
 shared-slice-read-kind : tie.Need-shared-slice-read-kind
 shared-slice-read-kind c = search needs
 
-uses-joint-requires : tie.Need-uses-joint-requires
-uses-joint-requires c κs = search needs
+uses-mirrored-requires : tie.Need-uses-mirrored-requires
+uses-mirrored-requires c κs = search needs
 
 add-byte-up-to : tie.Need-add-byte-up-to
 add-byte-up-to c = search needs
@@ -55,7 +55,7 @@ used-or-zero-requires-3 c κs = search needs
 
 returns : tie.Need-returns
 unfolding endShape
-returns c = rw (c .used-or-zero3 .ensures, c .before .uses-end-radius .ensures, c .before .before .used-or-zero2 .ensures, c .before .before .before .uses-circle-radius .ensures, c .before .before .before .before .used-or-zero .ensures, c .before .before .before .before .before .uses-direction .ensures, c .before .before .before .before .before .before .zero-bytes .ensures, c .before .before .before .before .before .before .before .byte-up-to .ensures, c .before .before .before .before .before .before .before .before .before .uses-joint .ensures)
+returns c = rw (c .used-or-zero3 .ensures, c .before .uses-end-radius .ensures, c .before .before .used-or-zero2 .ensures, c .before .before .before .uses-circle-radius .ensures, c .before .before .before .before .used-or-zero .ensures, c .before .before .before .before .before .uses-direction .ensures, c .before .before .before .before .before .before .zero-bytes .ensures, c .before .before .before .before .before .before .before .byte-up-to .ensures, c .before .before .before .before .before .before .before .before .before .uses-mirrored .ensures)
 
 pub end-shape-spec : {M : Type 1} → statement M
-end-shape-spec = tie.close (tie.spec shared-slice-read-kind uses-joint-requires add-byte-up-to shared-slice-read-byte-up-to byte-up-to-requires add-zero-bytes zero-bytes-requires uses-direction-requires add-used-or-zero used-or-zero-requires uses-circle-radius-requires add-used-or-zero-2 used-or-zero-requires-2 uses-end-radius-requires add-used-or-zero-3 used-or-zero-requires-3 returns)
+end-shape-spec = tie.close (tie.spec shared-slice-read-kind uses-mirrored-requires add-byte-up-to shared-slice-read-byte-up-to byte-up-to-requires add-zero-bytes zero-bytes-requires uses-direction-requires add-used-or-zero used-or-zero-requires uses-circle-radius-requires add-used-or-zero-2 used-or-zero-requires-2 uses-end-radius-requires add-used-or-zero-3 used-or-zero-requires-3 returns)

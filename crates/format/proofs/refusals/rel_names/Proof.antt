@@ -17,11 +17,11 @@ add-end-names-2 c = search needs
 end-names-requires-2 : tie.Need-end-names-requires-2
 end-names-requires-2 c κs = search needs
 
-shared-slice-read-uses-plane : tie.Need-shared-slice-read-uses-plane
-shared-slice-read-uses-plane c = search needs
+shared-slice-read-uses-third : tie.Need-shared-slice-read-uses-third
+shared-slice-read-uses-third c = search needs
 
-uses-plane-requires : tie.Need-uses-plane-requires
-uses-plane-requires c κs = search needs
+uses-third-requires : tie.Need-uses-third-requires
+uses-third-requires c κs = search needs
 
 add-end-names-3 : tie.Need-add-end-names-3
 add-end-names-3 c = search needs
@@ -31,7 +31,7 @@ end-names-requires-3 c κs = search needs
 
 returns : tie.Need-returns
 unfolding relNames
-returns c = rw (c .end-names3 .ensures, c .before .uses-plane .ensures, c .before .before .before .end-names2 .ensures, c .before .before .before .before .end-names .ensures)
+returns c = rw (c .end-names3 .ensures, c .before .uses-third .ensures, c .before .before .before .end-names2 .ensures, c .before .before .before .before .end-names .ensures)
 
 pub rel-names-spec : {M : Type 1} → statement M
 rel-names-spec =
@@ -41,8 +41,8 @@ rel-names-spec =
     end-names-requires
     add-end-names-2
     end-names-requires-2
-    shared-slice-read-uses-plane
-    uses-plane-requires
+    shared-slice-read-uses-third
+    uses-third-requires
     add-end-names-3
     end-names-requires-3
     returns)

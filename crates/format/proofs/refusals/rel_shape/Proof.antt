@@ -37,8 +37,8 @@ add-zero-bytes c = search needs
 zero-bytes-requires : tie.Need-zero-bytes-requires
 zero-bytes-requires c κs = search needs
 
-uses-offset-requires : tie.Need-uses-offset-requires
-uses-offset-requires c κs = search needs
+uses-teeth-requires : tie.Need-uses-teeth-requires
+uses-teeth-requires c κs = search needs
 
 add-used-or-zero : tie.Need-add-used-or-zero
 add-used-or-zero c = search needs
@@ -46,8 +46,8 @@ add-used-or-zero c = search needs
 used-or-zero-requires : tie.Need-used-or-zero-requires
 used-or-zero-requires c κs = search needs
 
-uses-angle-requires : tie.Need-uses-angle-requires
-uses-angle-requires c κs = search needs
+uses-offset-requires : tie.Need-uses-offset-requires
+uses-offset-requires c κs = search needs
 
 add-used-or-zero-2 : tie.Need-add-used-or-zero-2
 add-used-or-zero-2 c = search needs
@@ -55,14 +55,23 @@ add-used-or-zero-2 c = search needs
 used-or-zero-requires-2 : tie.Need-used-or-zero-requires-2
 used-or-zero-requires-2 c κs = search needs
 
-uses-reference-requires : tie.Need-uses-reference-requires
-uses-reference-requires c κs = search needs
+uses-angle-requires : tie.Need-uses-angle-requires
+uses-angle-requires c κs = search needs
 
 add-used-or-zero-3 : tie.Need-add-used-or-zero-3
 add-used-or-zero-3 c = search needs
 
 used-or-zero-requires-3 : tie.Need-used-or-zero-requires-3
 used-or-zero-requires-3 c κs = search needs
+
+uses-reference-requires : tie.Need-uses-reference-requires
+uses-reference-requires c κs = search needs
+
+add-used-or-zero-4 : tie.Need-add-used-or-zero-4
+add-used-or-zero-4 c = search needs
+
+used-or-zero-requires-4 : tie.Need-used-or-zero-requires-4
+used-or-zero-requires-4 c κs = search needs
 
 add-end-shape : tie.Need-add-end-shape
 add-end-shape c = search needs
@@ -76,11 +85,11 @@ add-end-shape-2 c = search needs
 end-shape-requires-2 : tie.Need-end-shape-requires-2
 end-shape-requires-2 c κs = search needs
 
-add-plane-shape : tie.Need-add-plane-shape
-add-plane-shape c = search needs
+add-third-shape : tie.Need-add-third-shape
+add-third-shape c = search needs
 
-plane-shape-requires : tie.Need-plane-shape-requires
-plane-shape-requires c κs = search needs
+third-shape-requires : tie.Need-third-shape-requires
+third-shape-requires c κs = search needs
 
 returns : tie.Need-returns
 unfolding relShape
@@ -93,21 +102,25 @@ returns c =
     let uses-angle = angle .before in
     let offset = uses-angle .before in
     let uses-offset = offset .before in
-    let zeros = uses-offset .before in
+    let teeth = uses-offset .before in
+    let uses-teeth = teeth .before in
+    let zeros = uses-teeth .before in
     let flag = zeros .before in
     let uses-flag = flag .before .before in
     let joint = uses-flag .before in
     let uses-joint = joint .before .before in
     rw (
-      c .plane-shape .ensures,
+      c .third-shape .ensures,
       b .end-shape2 .ensures,
       a .end-shape .ensures,
-      reference .used-or-zero3 .ensures,
+      reference .used-or-zero4 .ensures,
       uses-reference .uses-reference .ensures,
-      angle .used-or-zero2 .ensures,
+      angle .used-or-zero3 .ensures,
       uses-angle .uses-angle .ensures,
-      offset .used-or-zero .ensures,
+      offset .used-or-zero2 .ensures,
       uses-offset .uses-offset .ensures,
+      teeth .used-or-zero .ensures,
+      uses-teeth .uses-teeth .ensures,
       zeros .zero-bytes .ensures,
       flag .byte-up-to2 .ensures,
       uses-flag .uses-flag .ensures,
@@ -130,19 +143,22 @@ rel-shape-spec =
     byte-up-to-requires-2
     add-zero-bytes
     zero-bytes-requires
-    uses-offset-requires
+    uses-teeth-requires
     add-used-or-zero
     used-or-zero-requires
-    uses-angle-requires
+    uses-offset-requires
     add-used-or-zero-2
     used-or-zero-requires-2
-    uses-reference-requires
+    uses-angle-requires
     add-used-or-zero-3
     used-or-zero-requires-3
+    uses-reference-requires
+    add-used-or-zero-4
+    used-or-zero-requires-4
     add-end-shape
     end-shape-requires
     add-end-shape-2
     end-shape-requires-2
-    add-plane-shape
-    plane-shape-requires
+    add-third-shape
+    third-shape-requires
     returns)

@@ -80,6 +80,9 @@ enum-known-law-2 c = search needs
 joint-count-requires : tie.Need-joint-count-requires
 joint-count-requires c κs = tt
 
+enum-told-6 : tie.Need-enum-told-6
+enum-told-6 c = search needs
+
 returns : tie.Need-returns
 unfolding rowCount
 returns c =
@@ -203,6 +206,10 @@ returns-14 c =
     let law = c .before .before in
     rw (law .law2 .given .1, c .joint-count .ensures)
 
+returns-15 : tie.Need-returns-15
+unfolding rowCount
+returns-15 c = rw (c .enum-told6 .given .1)
+
 pub law-count-spec : {M : Type 1} → statement M
 law-count-spec =
     tie.close
@@ -232,6 +239,7 @@ law-count-spec =
     mirror-count-requires
     enum-known-law-2
     joint-count-requires
+    enum-told-6
     returns
     returns-2
     returns-3
@@ -245,4 +253,5 @@ law-count-spec =
     returns-11
     returns-12
     returns-13
-    returns-14)
+    returns-14
+    returns-15)

@@ -62,6 +62,9 @@ two-of-a-kind-requires c κs = tt
 enum-told-6 : tie.Need-enum-told-6
 enum-told-6 c = search needs
 
+enum-told-7 : tie.Need-enum-told-7
+enum-told-7 c = search needs
+
 returns : tie.Need-returns
 unfolding suits
 returns c = rw (c .enum-told .given .1)
@@ -145,6 +148,10 @@ returns-11 : tie.Need-returns-11
 unfolding suits
 returns-11 c = rw (c .enum-told6 .given .1)
 
+returns-12 : tie.Need-returns-12
+unfolding suits
+returns-12 c = rw (c .enum-told7 .given .1)
+
 pub suits-spec : {M : Type 1} → statement M
 suits-spec =
     tie.close
@@ -168,6 +175,7 @@ suits-spec =
     of-requires
     two-of-a-kind-requires
     enum-told-6
+    enum-told-7
     returns
     returns-2
     returns-3
@@ -178,4 +186,5 @@ suits-spec =
     returns-8
     returns-9
     returns-10
-    returns-11)
+    returns-11
+    returns-12)

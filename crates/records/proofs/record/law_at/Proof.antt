@@ -1,7 +1,8 @@
 -- `records::record::law_at` meets its contract: in every arm but the last the law's number is known, and with it the definition's table computes to the arm's law,
--- whose doubles, vector and end the calls promise and whose flag is the same comparison of a byte; in the last arm the number is 6 or more, and from 6 on the table
--- gives its last law (`last-law`). Assumes nothing.
-use Prim.Native.Nat.{_≤_}
+-- whose doubles, vector, end and kind of joint the calls promise and whose flag is the same comparison of a byte; in the last arm the number is 7 or more, and from 7 on
+-- the table gives its last law (`last-law`). Assumes nothing.
+use mathlib.Core.Path.{_≡_}
+use Prim.Native.Nat.{ℕ, suc, _≤_}
 use Rattle.records.specs.Numbers.{byNumber}
 use Rattle.records.specs.Record.{lawBy, byteAt}
 use native.Mathlib.Omega.{arith}
@@ -9,6 +10,12 @@ use Rattle.records.proofs.RecordLaws.{last-law}
 use borrow.Author.Needs.{needs}
 use Rattle.records.proofs.record.law_at.Statement.{statement}
 use Rattle.records.proofs.record.law_at.Tie as tie
+
+from-zero : (n : ℕ) → 0 ≤ n
+from-zero n = omega arith
+
+after : (k n : ℕ) → k ≤ n → (n ≡ k → ⊥) → suc k ≤ n
+after k n h other = omega arith
 
 shared-slice-read-law : tie.Need-shared-slice-read-law
 shared-slice-read-law c = search needs
@@ -94,6 +101,30 @@ add-double-at-7 c = search needs
 double-at-requires-7 : tie.Need-double-at-requires-7
 double-at-requires-7 c κs = search needs
 
+add-teeth-at : tie.Need-add-teeth-at
+add-teeth-at c = search needs
+
+teeth-at-requires : tie.Need-teeth-at-requires
+teeth-at-requires c κs = search needs
+
+add-teeth-at-2 : tie.Need-add-teeth-at-2
+add-teeth-at-2 c = search needs
+
+teeth-at-requires-2 : tie.Need-teeth-at-requires-2
+teeth-at-requires-2 c κs = search needs
+
+add-double-at-8 : tie.Need-add-double-at-8
+add-double-at-8 c = search needs
+
+double-at-requires-8 : tie.Need-double-at-requires-8
+double-at-requires-8 c κs = search needs
+
+add-end-at-2 : tie.Need-add-end-at-2
+add-end-at-2 c = search needs
+
+end-at-requires-2 : tie.Need-end-at-requires-2
+end-at-requires-2 c κs = search needs
+
 returns : tie.Need-returns
 unfolding lawBy byNumber
 returns c = rw (c .before .match .keys1, c .double-at .ensures)
@@ -119,12 +150,27 @@ unfolding lawBy byNumber
 returns-6 c = rw (c .before .match .keys6, c .end-at .ensures)
 
 returns-7 : tie.Need-returns-7
+unfolding lawBy byNumber
 returns-7 c =
-    let at = c .before .before .before .before .before in
+    let double-at = c .before in
+    let joint-kind-of = double-at .before .before in
+    let at = joint-kind-of .before .before in
+    rw (at .match .keys7, c .double-at7 .ensures, double-at .double-at6 .ensures, joint-kind-of .joint-kind-of .ensures)
+
+returns-8 : tie.Need-returns-8
+returns-8 c =
+    let double-at = c .before in
+    let teethB = double-at .before in
+    let teethA = teethB .before in
+    let at = teethA .before in
     let s = at .before .before .before .args .s .now in
     let r = at .before .before .before .args .r in
-    let h : 6 ≤ byteAt s r = omega (arith, at .match .rest) in
-    rw (last-law (byteAt s r) s r h, c .double-at7 .ensures, c .before .double-at6 .ensures, c .before .before .before .joint-kind-of .ensures)
+    let others = at .match .rest in
+    let h : 7 ≤ byteAt s r =
+    after 6 _
+    (after 5 _ (after 4 _ (after 3 _ (after 2 _ (after 1 _ (after 0 _ (from-zero _) (others .0 .0 .0 .0 .0 .0 .1)) (others .0 .0 .0 .0 .0 .1)) (others .0 .0 .0 .0 .1)) (others .0 .0 .0 .1)) (others .0 .0 .1)) (others .0 .1))
+    (others .1) in
+    rw (last-law (byteAt s r) s r h, c .end-at2 .ensures, double-at .double-at8 .ensures, teethB .teeth-at2 .ensures, teethA .teeth-at .ensures)
 
 pub law-at-spec : {M : Type 1} → statement M
 law-at-spec =
@@ -158,10 +204,19 @@ law-at-spec =
     double-at-requires-6
     add-double-at-7
     double-at-requires-7
+    add-teeth-at
+    teeth-at-requires
+    add-teeth-at-2
+    teeth-at-requires-2
+    add-double-at-8
+    double-at-requires-8
+    add-end-at-2
+    end-at-requires-2
     returns
     returns-2
     returns-3
     returns-4
     returns-5
     returns-6
-    returns-7)
+    returns-7
+    returns-8)

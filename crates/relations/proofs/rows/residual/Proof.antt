@@ -2,7 +2,7 @@
 -- function promises its rows. Assumes nothing.
 use Rattle.relations.specs.Rows.{residual, formulaRows, mateRows}
 use borrow.Author.Needs.{needs}
-use Rattle.relations.proofs.Values.{joint-is, vec-is}
+use Rattle.relations.proofs.Values.{joint-is, carrier-is, vec-is}
 use Rattle.relations.proofs.rows.residual.Statement.{statement}
 use Rattle.relations.proofs.rows.residual.Tie as tie
 
@@ -86,6 +86,21 @@ joint-at-requires-2 c κs = tt
 
 joint-requires : tie.Need-joint-requires
 joint-requires c κs = tt
+
+enum-known-law-8 : tie.Need-enum-known-law-8
+enum-known-law-8 c = search needs
+
+joint-at-requires-3 : tie.Need-joint-at-requires-3
+joint-at-requires-3 c κs = tt
+
+joint-at-requires-4 : tie.Need-joint-at-requires-4
+joint-at-requires-4 c κs = tt
+
+carrier-at-requires : tie.Need-carrier-at-requires
+carrier-at-requires c κs = tt
+
+gear-requires : tie.Need-gear-requires
+gear-requires c κs = tt
 
 returns : tie.Need-returns
 unfolding residual formulaRows mateRows
@@ -176,6 +191,21 @@ returns-7 c =
     let law = jointA .before .before in
     rw (law .law7 .given .1, c .joint .ensures, joint-is (jointB .joint-at2 .ensures), joint-is (jointA .joint-at .ensures))
 
+returns-8 : tie.Need-returns-8
+unfolding residual
+returns-8 c =
+    let carrier = c .before in
+    let jointB = carrier .before in
+    let jointA = jointB .before in
+    let law = jointA .before .before in
+    rw (
+      law .law8 .given .1,
+      c .gear .ensures,
+      carrier-is (carrier .carrier-at .ensures),
+      joint-is (jointB .joint-at4 .ensures),
+      joint-is (jointA .joint-at3 .ensures),
+    )
+
 pub residual-spec : {M : Type 1} → statement M
 residual-spec =
     tie.close
@@ -207,10 +237,16 @@ residual-spec =
     joint-at-requires
     joint-at-requires-2
     joint-requires
+    enum-known-law-8
+    joint-at-requires-3
+    joint-at-requires-4
+    carrier-at-requires
+    gear-requires
     returns
     returns-2
     returns-3
     returns-4
     returns-5
     returns-6
-    returns-7)
+    returns-7
+    returns-8)

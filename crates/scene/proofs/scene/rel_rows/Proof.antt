@@ -15,8 +15,8 @@ end-pose-requires c κs = search needs
 end-pose-requires-2 : tie.Need-end-pose-requires-2
 end-pose-requires-2 c κs = search needs
 
-plane-body-requires : tie.Need-plane-body-requires
-plane-body-requires c κs = search needs
+third-body-requires : tie.Need-third-body-requires
+third-body-requires c κs = search needs
 
 end-pose-requires-3 : tie.Need-end-pose-requires-3
 end-pose-requires-3 c κs = search needs
@@ -27,7 +27,7 @@ residual-requires c κs = search needs
 returns : tie.Need-returns
 returns c =
     let g = c .before .before .before .before .before .before .before .before .args in
-    let e = c .before .end-pose3 .ensures ∙ ap (endPose (posesIn (g .s .now) (g .p) (g .m))) (c .before .before .plane-body .ensures) in
+    let e = c .before .end-pose3 .ensures ∙ ap (endPose (posesIn (g .s .now) (g .p) (g .m))) (c .before .before .third-body .ensures) in
     let a = c .before .before .before .before .end-pose .ensures in
     let b = c .before .before .before .end-pose2 .ensures in
     c .residual .ensures ∙ (λ v. pack (residual (lawOf (g .rel .law)) (endOf (g .rel .a)) (endOf (g .rel .b)) (a v) (b v) (e v)))
@@ -38,7 +38,7 @@ rel-rows-spec =
     (tie.spec
     end-pose-requires
     end-pose-requires-2
-    plane-body-requires
+    third-body-requires
     end-pose-requires-3
     residual-requires
     returns)

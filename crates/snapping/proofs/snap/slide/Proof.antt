@@ -50,6 +50,9 @@ enum-known-law-5 c = search needs
 joint-slide-requires : tie.Need-joint-slide-requires
 joint-slide-requires c κs = tt
 
+enum-told-3 : tie.Need-enum-told-3
+enum-told-3 c = search needs
+
 returns : tie.Need-returns
 unfolding slide
 returns c =
@@ -91,6 +94,10 @@ returns-7 c =
     let law = c .before .before .before .before in
     rw (law .law5 .given .1, vec-is (c .joint-slide .ensures))
 
+returns-8 : tie.Need-returns-8
+unfolding slide
+returns-8 c = rw (c .enum-told3 .given .1)
+
 pub slide-spec : {M : Type 1} → statement M
 slide-spec =
     tie.close
@@ -110,10 +117,12 @@ slide-spec =
     enum-told-2
     enum-known-law-5
     joint-slide-requires
+    enum-told-3
     returns
     returns-2
     returns-3
     returns-4
     returns-5
     returns-6
-    returns-7)
+    returns-7
+    returns-8)

@@ -44,6 +44,9 @@ direction-requires-6 c κs = tt
 enum-told-7 : tie.Need-enum-told-7
 enum-told-7 c = search needs
 
+enum-told-8 : tie.Need-enum-told-8
+enum-told-8 c = search needs
+
 returns : tie.Need-returns
 unfolding snapDir
 returns c = rw (c .before .enum-told .given .1, c .direction .ensures)
@@ -72,6 +75,10 @@ returns-7 : tie.Need-returns-7
 unfolding snapDir
 returns-7 c = rw (c .before .enum-told7 .given .1)
 
+returns-8 : tie.Need-returns-8
+unfolding snapDir
+returns-8 c = rw (c .enum-told8 .given .1)
+
 pub snap-dir-spec : {M : Type 1} → statement M
 snap-dir-spec =
     tie.close
@@ -89,10 +96,12 @@ snap-dir-spec =
     enum-told-6
     direction-requires-6
     enum-told-7
+    enum-told-8
     returns
     returns-2
     returns-3
     returns-4
     returns-5
     returns-6
-    returns-7)
+    returns-7
+    returns-8)

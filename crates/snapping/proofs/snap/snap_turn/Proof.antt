@@ -30,6 +30,9 @@ enum-known-law c = search needs
 joint-turn-requires : tie.Need-joint-turn-requires
 joint-turn-requires c κs = tt
 
+enum-told-7 : tie.Need-enum-told-7
+enum-told-7 c = search needs
+
 returns : tie.Need-returns
 unfolding snapTurn
 returns c = rw (c .enum-told .given .1)
@@ -58,6 +61,10 @@ returns-7 : tie.Need-returns-7
 unfolding snapTurn
 returns-7 c = rw (c .before .before .law .given .1, mat-is (c .joint-turn .ensures))
 
+returns-8 : tie.Need-returns-8
+unfolding snapTurn
+returns-8 c = rw (c .enum-told7 .given .1)
+
 pub snap-turn-spec : {M : Type 1} → statement M
 snap-turn-spec =
     tie.close
@@ -70,10 +77,12 @@ snap-turn-spec =
     enum-told-6
     enum-known-law
     joint-turn-requires
+    enum-told-7
     returns
     returns-2
     returns-3
     returns-4
     returns-5
     returns-6
-    returns-7)
+    returns-7
+    returns-8)

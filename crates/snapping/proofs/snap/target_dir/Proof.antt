@@ -45,6 +45,9 @@ enum-known-law-2 c = search needs
 joint-target-requires : tie.Need-joint-target-requires
 joint-target-requires c κs = tt
 
+enum-told-6 : tie.Need-enum-told-6
+enum-told-6 c = search needs
+
 returns : tie.Need-returns
 unfolding targetDir
 returns c =
@@ -82,6 +85,10 @@ returns-7 c =
     let law = c .before .before in
     rw (law .law2 .given .1, c .joint-target .ensures)
 
+returns-8 : tie.Need-returns-8
+unfolding targetDir
+returns-8 c = rw (c .enum-told6 .given .1)
+
 pub target-dir-spec : {M : Type 1} → statement M
 target-dir-spec =
     tie.close
@@ -99,10 +106,12 @@ target-dir-spec =
     enum-told-5
     enum-known-law-2
     joint-target-requires
+    enum-told-6
     returns
     returns-2
     returns-3
     returns-4
     returns-5
     returns-6
-    returns-7)
+    returns-7
+    returns-8)
