@@ -1,12 +1,14 @@
 #!/usr/bin/env python3
-"""Holds docs/DEFINITIONS.md against the frozen answers of the Rust and against the definitions that it names.
+"""Holds docs/DEFINITIONS.md against frozen answers and against the definitions that it names.
 
     python3 tools/definitions.py [PAGE]      PAGE is docs/DEFINITIONS.md unless another is given
 
 The page's own tables are worked: formulas by tools/formulas.py, and relations, bodies and headers by the page's offsets.
-Nothing of the solver's code or of the Rust is used. The comparisons:
+Nothing of the solver's code or of the Rust is used. The frozen answers are those of the Rust, and for gears, which it does not
+have, those of a second program of ours. The comparisons:
 
-  rows        crates/row_list/data/rows.bin: every row and every error, bit for bit; the unit of every row, by doubling all lengths
+  rows        crates/row_list/data/rows.bin, the Rust's, and gear_rows.bin, our second program's: every row and every error, bit
+              for bit; the unit of every row, by doubling all lengths
   functions   wrap.bin and tangent_gap.bin beside it, crates/vector_list/data/from_normal.bin
   readings    crates/sheet_list/data/relation_calls.bin: `joint_reading`, and whether a relation is judged to have rows
   faults      sheets_fields.bin, sheets_refused.bin and sheets_limits.bin there: which number every sheet is refused with
@@ -143,6 +145,13 @@ class Definitions:
         for of, size in (("pose", 12), ("frame", 12), ("freedom", 29)):
             if [i for part in self.filled[of] for i in part] != list(range(size)):
                 problem(f"the doubles of a {of} are not 0 to {size - 1} in order")
+        found = re.search(r"relations in order, each by (\d+(?:, then \d+)*)\.", self.text)
+        if not found:
+            raise ValueError("the page does not say by which tests a relation goes")
+        self.tests = [1, 2, 3, 4] + [int(n) for n in found.group(1).split(", then ")]
+        faults = {f.fault for fields in self.fields.values() for f in fields if f.fault}
+        if len(set(self.tests)) != len(self.tests) or faults | {1} != set(self.tests):
+            problem(f"the tests of the text are {self.tests}, and the faults of the tables {sorted(faults)}")
         self.met = Counter()
 
     def table(self, heading, first):
@@ -169,6 +178,11 @@ class Definitions:
         if at != size:
             problem(f"{name}: the fields end at {at}, and the page gives it {size} bytes")
         return at
+
+    def uses(self, name, law):
+        """Whether a law uses the relation's field."""
+        field = next(f for f in self.fields["Relation"] if f.name == name)
+        return field.used is None or law in field.used
 
     # -- reading a record by the page's offsets
 
@@ -199,9 +213,9 @@ class Definitions:
         pose = lambda end: ground if end["body"] == 65535 else poses[end["body"]]
         a, b = ("B", "A") if exchanged else ("A", "B")
         scope = {"A": rel[a], "B": rel[b], "S": rel["S"], "qa": pose(rel[a]), "qb": pose(rel[b])}
-        if self.numbers["law"][rel["law"]] == "symmetry":
+        if self.uses("S", self.numbers["law"][rel["law"]]):
             scope["qs"] = pose(rel["S"])
-        scope.update({name: rel[name] for name in ("offset", "angle", "reference", "flag")})
+        scope.update({name: rel[name] for name in ("offset", "angle", "reference", "flag", "teeth_a", "teeth_b")})
         return scope
 
     def gap(self, kinds, flag):
@@ -287,8 +301,9 @@ def field_fault(d, f, data, at, uses, known):
     return 0 if good else f.fault
 
 
-def first_fault(faults):
-    return min((x for x in faults if x), default=0)
+def first_fault(d, faults):
+    """The fault that comes first in the page's order of tests, or 0."""
+    return min((x for x in faults if x), key=d.tests.index, default=0)
 
 
 def relation_fault(d, data, at, known):
@@ -304,21 +319,21 @@ def relation_fault(d, data, at, known):
             continue
         primitive = d.numbers["primitive"].get(data[at + f.offset + d.fields["End"][0].offset])
         faults += [field_fault(d, g, data, at + f.offset, lambda used: law in used or primitive in used, known) for g in d.fields["End"]]
-    return first_fault(faults)
+    return first_fault(d, faults)
 
 
 def sheet_fault(d, data):
-    """The number by the page's tables, 1 to 7, or 0."""
+    """The number by the page's tables, 1 to 7 or 14, or 0."""
     if len(data) < d.sizes["Header"]:
         return 1
     known = {name: float(v) for name, v in d.read("Header", data, 0).items()}
-    fault = first_fault(field_fault(d, f, data, 0, None, known) for f in d.fields["Header"])
+    fault = first_fault(d, (field_fault(d, f, data, 0, None, known) for f in d.fields["Header"]))
     if fault or len(data) != known["length"]:
         return fault or 4
     header = d.read("Header", data, 0)
     for i in range(header["m"]):
         at = header["bodies"] + d.sizes["Body"] * i
-        fault = first_fault(field_fault(d, f, data, at, None, known) for f in d.fields["Body"])
+        fault = first_fault(d, (field_fault(d, f, data, at, None, known) for f in d.fields["Body"]))
         if fault:
             return fault
     for j in range(header["k"]):
@@ -392,8 +407,13 @@ def pair_name(d, rel):
 
 
 def compare_rows(d):
-    """rows.bin; gives the count of relations and rows for each law and pair."""
-    rows, seen, row_count = List(ROWS / "rows.bin"), {}, 0
+    compare_list(d, "rows.bin", [law for law in d.counts if law != "gear"])
+    compare_list(d, "gear_rows.bin", ["gear"])
+
+
+def compare_list(d, name, laws):
+    """A list of rows: every row and error; how many relations and rows there are of each law and pair. It has just these laws."""
+    rows, seen, row_count = List(ROWS / name), {}, 0
     for i in range(rows.count):
         rel = d.read("Relation", rows.bytes(264), 0)
         poses = [pose_of(rows.doubles(12)) for _ in range(3)]
@@ -403,11 +423,11 @@ def compare_rows(d):
         values = [v for v, _ in mine]
         if not same(values, theirs):
             where = next((g for (v, g), t in zip(mine, theirs) if bits(v) != bits(t)), None)
-            problem(f"rows.bin, relation {i}, {' '.join(pair_name(d, rel))}: {len(values)} rows by the page, {count} in the list; "
+            problem(f"{name}, relation {i}, {' '.join(pair_name(d, rel))}: {len(values)} rows by the page, {count} in the list; "
                     + (f"the first that differs: {where}" if where else "their number differs"))
             continue
         if bits(largest(values)) != bits(error):
-            problem(f"rows.bin, relation {i}: the error differs")
+            problem(f"{name}, relation {i}: the error differs")
         for (v, group), (w, _) in zip(mine, d.rows(*doubled(rel, poses))):
             if bits(w) != bits(2 * v if group.unit == "mm" else v):
                 problem(f"{group}: the unit is not {group.unit}")
@@ -416,8 +436,10 @@ def compare_rows(d):
         seen[key] = relations + 1, n + count
         row_count += count
     rows.whole(row_count)
-    print(f"rows: {sum(r for r, _ in seen.values())} of {rows.count} relations, {row_count} rows, bit for bit as in the list")
-    for law in d.counts:
+    if {law for law, _ in seen} != set(laws):
+        problem(f"{name}: it has {', '.join(sorted({law for law, _ in seen}))} instead of {', '.join(laws)}")
+    print(f"rows: {sum(r for r, _ in seen.values())} of {rows.count} relations, {row_count} rows, bit for bit as in {name}")
+    for law in laws:
         pairs = [f"{pair} {r} ({n})" for (of, pair), (r, n) in sorted(seen.items()) if of == law]
         print(f"  {law}, relations (rows): " + ", ".join(pairs))
 
@@ -453,9 +475,10 @@ def compare_functions(d):
         if not all(map(math.isfinite, origin)):
             left += 1
             continue
-        built, o, x, z = (d.page.call(name, arguments, {}) for name, arguments in (("built", [z]), ("frameO", [origin, z]), ("frameX", [z]), ("frameZ", [z])))
-        theirs = frame[:6] + frame[9:] if present else (0.0, 0.0, 0.0, 1.0, 0.0, 0.0, 0.0, 0.0, 1.0)
-        if built == present and same(o + x + z, theirs):
+        built, o, x, y, z = (d.page.call(name, arguments, {}) for name, arguments in
+                             (("built", [z]), ("frameO", [origin, z]), ("frameX", [z]), ("frameY", [z]), ("frameZ", [z])))
+        theirs = frame if present else (0.0, 0.0, 0.0, 1.0, 0.0, 0.0, 0.0, 1.0, 0.0, 0.0, 0.0, 1.0)
+        if built == present and same(o + x + y + z, theirs):
             good += 1
         else:
             problem(f"from_normal.bin: the frame of {origin}, {z} differs")
@@ -487,9 +510,10 @@ def compare_readings(d):
 
 def compare_fields(d):
     """sheets_fields.bin: one field changed at a time, and what judging relation 0 gives."""
-    fields, numbers = List(SHEETS / "sheets_fields.bin"), Counter()
+    fields, numbers, laws = List(SHEETS / "sheets_fields.bin"), Counter(), Counter()
     for i in range(fields.count):
         sheet = fields.bytes(53 * 8)
+        laws[d.numbers["law"].get(d.read("Relation", sheet, d.read("Header", sheet, 0)["relations"])["law"])] += 1
         for _ in range(fields.word()):
             at, word, number = fields.words(3)
             changed = sheet[:8 * at] + struct.pack("<Q", word) + sheet[8 * at + 8:]
@@ -503,6 +527,13 @@ def compare_fields(d):
     fields.whole(sum(numbers.values()))
     said = ", ".join(f"{n}: {numbers[n]}" for n in sorted(numbers))
     print(f"faults: {sum(numbers.values())} sheets with one field changed as in the list, by number {said}")
+    print(f"  of {fields.count} sheets, by law " + ", ".join(f"{law}: {laws[law]}" for law in d.counts))
+    for law in d.counts:
+        if not laws[law]:
+            problem(f"sheets_fields.bin: no sheet has the law {law}")
+    for n in d.tests[1:]:
+        if not numbers[n]:
+            problem(f"sheets_fields.bin: no sheet is refused by {n}")
 
 
 def sheets_of(path):
@@ -521,21 +552,21 @@ def sheets_of(path):
 
 
 def compare_refused(d):
-    """sheets_refused.bin and sheets_limits.bin: the numbers 1 to 7, and none of them."""
+    """sheets_refused.bin and sheets_limits.bin: the numbers 1 to 7 and 14, and none of them."""
     numbers = Counter()
     for name in ("sheets_refused.bin", "sheets_limits.bin"):
         for i, (sheet, calls) in enumerate(sheets_of(SHEETS / name)):
             mine = sheet_fault(d, sheet)
             for head, answer in calls:
                 number = struct.unpack_from("<Q", answer)[0]
-                theirs = number if number <= 7 else 0
+                theirs = number if number in d.tests else 0
                 if mine == theirs:
                     numbers[theirs] += 1
                 else:
                     problem(f"{name}, sheet {i}, call {head[0]}: {mine} by the page and {theirs} in the list")
     said = ", ".join(f"{n}: {numbers[n]}" for n in sorted(numbers))
-    print(f"faults: {sum(numbers.values())} calls on good and damaged sheets as in the lists, by number {said} (0: none of 1 to 7)")
-    for n in range(1, 8):
+    print(f"faults: {sum(numbers.values())} calls on good and damaged sheets as in the lists, by number {said} (0: none of the sheet's own)")
+    for n in d.tests:
         if not numbers[n]:
             problem(f"no sheet of the lists was refused by {n}")
 
@@ -557,7 +588,7 @@ def compare_solved(d):
         m, k = header["m"], header["k"]
         bodies = [d.read("Body", sheet, header["bodies"] + d.sizes["Body"] * j) for j in range(m)]
         rels = [d.read("Relation", sheet, header["relations"] + d.sizes["Relation"] * j) for j in range(k)]
-        named = {rel[e]["body"] for rel in rels for e in ("ABS" if d.numbers["law"][rel["law"]] == "symmetry" else "AB")}
+        named = {rel[e]["body"] for rel in rels for e in "ABS" if d.uses(e, d.numbers["law"][rel["law"]])}
         for head, answer in calls:
             refused, first = struct.unpack_from("<QQ", answer) if len(answer) > 8 else (1, 0)
             if head[0] == 4 and not refused:

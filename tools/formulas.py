@@ -75,7 +75,7 @@ def arctangent(y, x):
 
 # ---- formulas: a number is a float, a vector a tuple of three, a pose or an end a dict
 
-TOKEN = re.compile(r"\s*(\d+(?:\.\d+)?(?:e-?\d+)?|[A-Za-zπ_]\w*|<=|>=|!=|[-+*/%·×().,<>=])")
+TOKEN = re.compile(r"\s*(\d+(?:\.\d+)?(?:e-?\d+)?|[A-Za-zπθ_]\w*|<=|>=|!=|[-+*/%·×().,<>=])")
 
 
 class Parser:

@@ -475,6 +475,47 @@ def joint_ball(s):
     s.text((110, 126), "one point, turns any way", GREY, "middle")
 
 
+# ---- gear: seen along the arbors, the carrier's z at the eye
+
+def wheel(s, p, radius, teeth, turned, color):
+    """A toothed wheel with its pitch circle and a tooth in the direction `turned`, degrees counter-clockwise."""
+    points = []
+    for i in range(teeth):
+        for part, out in ((-0.27, -6), (-0.12, 5), (0.12, 5), (0.27, -6)):
+            t = math.radians(turned + 360 * (i + part) / teeth)
+            points.append((p[0] + (radius + out) * math.cos(t), p[1] - (radius + out) * math.sin(t)))
+    s.path(points + points[:1], color, 1.2)
+    s.ring(p, radius, LIGHT, 0.8, "6 2 1 2")
+
+
+def wheel_angle(s, p, length, arc, turned, color):
+    """A wheel's x, and the angle to it from the carrier's x."""
+    s.line(p, (p[0] + length, p[1]), GREY, 1.0, "3 3")
+    s.path(oval(p, arc, arc, 0, turned - 360 / arc), GREY, 1.0)
+    back = math.radians(turned - 180 / arc)
+    s.head(oval(p, arc, arc, 0, turned)[-1], (-math.sin(back), -math.cos(back)), GREY)
+    s.arrow(p, oval(p, length, length, 0, turned)[-1], color)
+    s.dot(p, color)
+
+
+def gear(s):
+    # the line of centres along xc: 14 * 50 + 12 * 320/3 degrees is half a turn and whole ones, so that the teeth mesh
+    a, b = (64, 62), (157.6, 62)
+    wheel(s, a, 50.4, 14, 50, A)
+    wheel(s, b, 43.2, 12, 320 / 3, B)
+    wheel_angle(s, a, 37, 22, 50, A)
+    wheel_angle(s, b, 31, 17, 320 / 3, B)
+    s.text((64, 38), "xa", A)
+    s.text((86, 56), "θa", GREY)
+    s.text((130, 51), "xb", B)
+    s.text((171, 50), "θb", GREY)
+    s.arrow((112, 130), (146, 130), GREY)
+    s.arrow((112, 130), (112, 100), GREY)
+    s.dot((112, 130), GREY)
+    s.text((150, 134), "xc", GREY)
+    s.text((93, 122), "yc", GREY)
+
+
 SKETCHES = {
     "mate-plane-plane": mate_plane_plane, "mate-plane-line": mate_plane_line, "mate-plane-point": mate_plane_point,
     "mate-line-line": mate_line_line, "mate-line-point": mate_line_point, "mate-point-point": mate_point_point,
@@ -483,7 +524,7 @@ SKETCHES = {
     "tangent-line-point": tangent_line_point, "tangent-point-point": tangent_point_point,
     "symmetry-plane": symmetry_plane, "symmetry-line": symmetry_line, "symmetry-point": symmetry_point,
     "joint-rigid": joint_rigid, "joint-revolute": joint_revolute, "joint-slider": joint_slider,
-    "joint-cylindrical": joint_cylindrical, "joint-planar": joint_planar, "joint-ball": joint_ball,
+    "joint-cylindrical": joint_cylindrical, "joint-planar": joint_planar, "joint-ball": joint_ball, "gear": gear,
 }
 
 
