@@ -1,22 +1,23 @@
 #!/usr/bin/env python3
 """Writes the example sheets beside this file: python3 examples/make.py. With a folder's name it writes there, and the benchmark's 64-body sheet too.
 
-The format is document 01's: a header of 24 bytes, 136 bytes for a body, 264 for a relation, all little endian. Millimetres and radians.
+The format is document 01's, with gears as request 1 has them: a header of 24 bytes, 136 bytes for a body, 264 for a relation, all little endian. Millimetres and radians.
 """
 import math
 import struct
 import sys
+from collections import namedtuple
 from pathlib import Path
 
 GROUND = 65535
-MATE, FLUSH, ANGLE, INSERT, TANGENT, SYMMETRY, JOINT = range(7)
+MATE, FLUSH, ANGLE, INSERT, TANGENT, SYMMETRY, JOINT, GEAR = range(8)
 PLANE, LINE, POINT, CIRCLE = range(4)
 RIGID, REVOLUTE, SLIDER, CYLINDRICAL, PLANAR, BALL = range(6)
 X, Y, Z = (1.0, 0.0, 0.0), (0.0, 1.0, 0.0), (0.0, 0.0, 1.0)
 ZERO = (0.0, 0.0, 0.0)
 
 
-def turned(axis, angle):
+def turned(axis, angle, axes=(X, Y, Z)):
     """The axes of a frame turned by an angle about an axis."""
     length = math.sqrt(sum(a * a for a in axis))
     u = [a / length for a in axis]
@@ -27,7 +28,7 @@ def turned(axis, angle):
         over = (u[1] * v[2] - u[2] * v[1], u[2] * v[0] - u[0] * v[2], u[0] * v[1] - u[1] * v[0])
         return tuple(v[i] * c + over[i] * s + u[i] * along * (1 - c) for i in range(3))
 
-    return turn(X), turn(Y), turn(Z)
+    return tuple(turn(v) for v in axes)
 
 
 def body(origin, axes=(X, Y, Z), size=2.0, fixed=0):
@@ -42,8 +43,9 @@ def end(prim, of, point, direction=ZERO, circle_radius=0.0, radius=0.0, mirrored
 NO_END = bytes(72)
 
 
-def relation(law, a, b, offset=0.0, angle=0.0, reference=ZERO, joint=0, flag=0, plane=NO_END):
-    return struct.pack("<BBB5x5d", law, joint, flag, offset, angle, *reference) + a + b + plane
+def relation(law, a, b, offset=0.0, angle=0.0, reference=ZERO, joint=0, flag=0, teeth=(0, 0), third=NO_END):
+    """`teeth` are those of a gear's a and b; `third` is symmetry's plane or a gear's carrier."""
+    return struct.pack("<BBBxHH5d", law, joint, flag, *teeth, offset, angle, *reference) + a + b + third
 
 
 def sheet(bodies, relations):
@@ -101,6 +103,55 @@ def movement(first, at, more):
     return bodies, relations
 
 
+# A going train of 18,000 beats an hour. Teeth of the wheel and of the pinion on the arbor; the wheel's module; where the next arbor stands, as an angle from the
+# plate's x; height; by what part of a tooth its wheel starts beside its place. The escape wheel's 15 teeth meet the pallets, which are no part of the sheet.
+Arbor = namedtuple("Arbor", "name wheel pinion module towards height beside")
+TRAIN = [
+    Arbor("barrel", 80, None, 0.12, -0.55, 1.2, 0.3),
+    Arbor("centre wheel", 80, 10, 0.11, 0.5, 1.6, -0.2),
+    Arbor("third wheel", 75, 10, 0.1, -1.35, 1.9, 0.25),
+    Arbor("fourth wheel", 80, 10, 0.085, -2.3, 1.4, -0.3),
+    Arbor("escape wheel", 15, 8, None, None, 1.1, 0.1),
+]
+MESHES = list(zip(TRAIN, TRAIN[1:]))
+# Where the barrel's arbor stands on the plate, and the angle from the plate's x at which the escape wheel's spoke stands.
+BARREL = (-4.6, 2.8)
+SPOKE = 0.25
+
+
+def meshing(a, b):
+    """The angle of the gear of arbor a's wheel and arbor b's pinion.
+
+    Each arbor's x runs through the middle of a tooth of its wheel and of its pinion. So a tooth of a stands in a space of b on the line of centres, whose angle
+    is φ, where wheel·θa + pinion·θb is (wheel + pinion)·φ + (pinion + 1)·π, up to whole turns.
+    """
+    return math.remainder((a.wheel + b.pinion) * a.towards + (b.pinion + 1) * math.pi, 2 * math.pi)
+
+
+def train():
+    """Plate and five arbors. The escape wheel's spoke stands at an angle, and the teeth hold the other wheels. The plate is fixed; all else starts a little off."""
+    places, spokes = [BARREL], [SPOKE]
+    for a, b in MESHES:
+        far, (x, y) = a.module * (a.wheel + b.pinion) / 2, places[-1]
+        places.append((x + far * math.cos(a.towards), y + far * math.sin(a.towards)))
+    for a, b in reversed(MESHES):
+        # Where a's x stands when its wheel meshes with what it drives: within half a tooth of the plate's x.
+        spokes.insert(0, math.remainder(meshing(a, b) - b.pinion * spokes[0], 2 * math.pi) / a.wheel)
+    bodies, relations = [body(ZERO, size=26.0, fixed=1)], []
+    for i, (arbor, (x, y), spoke) in enumerate(zip(TRAIN, places, spokes)):
+        start = (x + 0.11 * (i + 1), y - 0.07 * (i + 2), arbor.height + 0.2 - 0.05 * i)
+        beside = spoke + arbor.beside * 2 * math.pi / arbor.wheel
+        bodies.append(body(start, turned((1.0 + i, 2.0, 0.0), 0.02 * (i + 1), turned(Z, beside)), size=arbor.module * arbor.wheel if arbor.module else 4.6))
+        relations.append(relation(JOINT, end(LINE, 0, (x, y, arbor.height), Z), end(LINE, 1 + i, ZERO, Z), joint=REVOLUTE, flag=1))
+    relations.append(relation(ANGLE, end(LINE, 0, ZERO, X), end(LINE, len(TRAIN), ZERO, X), angle=SPOKE, reference=Z))
+    for i, (a, b) in enumerate(MESHES):
+        # The pitch circles, both at the wheel's height; the plate is the carrier.
+        wheel = end(CIRCLE, 1 + i, ZERO, Z, a.module * a.wheel / 2)
+        pinion = end(CIRCLE, 2 + i, (0.0, 0.0, a.height - b.height), Z, a.module * b.pinion / 2)
+        relations.append(relation(GEAR, wheel, pinion, angle=meshing(a, b), teeth=(a.wheel, b.pinion), third=end(PLANE, 0, ZERO, Z)))
+    return sheet(bodies, relations)
+
+
 def impossible():
     """A bridge asked to lie at 3 mm and at 3.05 mm at once: the errors say by how much it cannot."""
     bodies = [body(ZERO, size=26.0, fixed=1), body((0.0, 0.0, 3.2), size=18.0)]
@@ -122,7 +173,7 @@ def full():
 
 def main():
     folder = Path(sys.argv[1]) if len(sys.argv) > 1 else Path(__file__).resolve().parent
-    sheets = {"worked": worked(), "movement": sheet(*movement(0, ZERO, False)), "impossible": impossible()}
+    sheets = {"worked": worked(), "movement": sheet(*movement(0, ZERO, False)), "impossible": impossible(), "train": train()}
     if len(sys.argv) > 1:
         sheets["full"] = full()
     for name, text in sheets.items():
