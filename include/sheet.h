@@ -16,9 +16,10 @@
  *   11  judging: the law does not suit the two ends
  *   12  judging: a tangent's ends are not round, or not round with a plane
  *   13  the sheet has no such relation
+ *   14  a wheel of a gear has 0 teeth, or more than 400
  *
- * Tests 1 to 4 come first, then each record in order by 5, 6 and 7, then 13, 8, 11, 12, 10, 9. A test of what a call does not
- * take is skipped.
+ * Tests 1 to 4 come first, then each body in order by 5 and 7, then each relation in order by 5, 14, 6 and 7, then 13, 8, 11,
+ * 12, 10, 9. A test of what a call does not take is skipped.
  *
  * Nothing is kept after a call, and no memory is taken: a call reads the sheet and writes only where its output and scratch
  * pointers point. No pointer may be null, no output or scratch may overlap the sheet or another of them, and doubles stand at
@@ -34,14 +35,16 @@
 extern "C" {
 #endif
 
-/* Whether the relation suits its ends: 0, or 11 or 12, or the number of another test. */
+/* Whether the relation suits its ends: 0, or 11 or 12, or the number of another test. A gear suits any ends. */
 uint32_t sheet_judge(const uint8_t *sheet, size_t sheet_len, uint16_t relation);
 
-/* Where a joint stands at the sheet's frames, as its own offset (millimetres) and angle (radians) are measured. */
+/* Where a joint stands at the sheet's frames, as its own offset (millimetres) and angle (radians) are measured. Of any other
+ * relation, a gear too, the ends a and b are read as if a joint joined them. */
 uint32_t sheet_joint_reading(const uint8_t *sheet, size_t sheet_len, uint16_t relation, double *offset, double *angle);
 
 /* The motion of end b's body that makes the relation hold by itself: its first 12 doubles are nine turning entries by row
- * and the position. motion_len is at least 12; what stands after the twelfth double is kept. */
+ * and the position. A gear's moves nothing: no turning, position 0. motion_len is at least 12; what stands after the twelfth
+ * double is kept. */
 uint32_t sheet_snap(const uint8_t *sheet, size_t sheet_len, uint16_t relation, double *motion, size_t motion_len);
 
 /* Where each body stands, how far off each relation is, and whether all of them hold. m and k are the sheet's numbers of
@@ -49,11 +52,13 @@ uint32_t sheet_snap(const uint8_t *sheet, size_t sheet_len, uint16_t relation, d
  *
  *   drag       the number of the body that was moved by hand, which stays as near where it was put as it may; 65535 for none
  *   scratch    at least R*n + 2*R*R + 8*R + 8*n + 32*m doubles, where R is the number of rows of all relations, at most 7*k,
- *              and n is six times the number of unfixed bodies that relations name, at most 6*m. What stands in it at entry
- *              has no say in the answer, and an accepted call leaves any doubles in it.
+ *              and n is six times the number of unfixed bodies that relations name, symmetry's plane and a gear's carrier
+ *              included, at most 6*m. What stands in it at entry has no say in the answer, and an accepted call leaves any
+ *              doubles in it.
  *   poses      at least 12*m doubles: for each body nine turning entries by row, then the position
  *   frames     at least 12*m doubles: for each body its frame at that pose: origin, x, y, z
- *   errors     at least k doubles: for each relation the largest magnitude among its rows at the poses, 0 if it has no rows
+ *   errors     at least k doubles: for each relation the largest magnitude among its rows at the poses, 0 if it has no rows;
+ *              for a gear in radians of which 2 pi are one tooth
  *   converged  one byte: 1 if every error is at most 1e-9, else 0
  *
  * Another drag is refused by 8, short poses, frames or errors by 10, and short scratch by 9. What stands in poses, frames and
@@ -65,8 +70,9 @@ uint32_t sheet_solve(const uint8_t *sheet, size_t sheet_len, uint16_t drag, doub
  * m and k are the sheet's numbers of bodies and relations.
  *
  *   scratch    at least R*n + 2*n*n + 8*R + 8*n + 32*m doubles, where R is the number of rows of all relations, at most 7*k,
- *              and n is six times the number of unfixed bodies that relations name, at most 6*m. What stands in it at entry
- *              has no say in the answer, and an accepted call leaves any doubles in it.
+ *              and n is six times the number of unfixed bodies that relations name, symmetry's plane and a gear's carrier
+ *              included, at most 6*m. What stands in it at entry has no say in the answer, and an accepted call leaves any
+ *              doubles in it.
  *   freedoms   at least 29*m doubles: for each body how many ways it may slide and about how many lines it may turn, each 0
  *              to 3; then three slides, each a direction; then three turns, each an axis and a point of it. What is not used
  *              is 0, and a fixed body's 29 doubles are all 0.
