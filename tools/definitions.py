@@ -11,8 +11,10 @@ have, those of a second program of ours. The comparisons:
               for bit; the unit of every row, by doubling all lengths
   functions   wrap.bin and tangent_gap.bin beside it, crates/vector_list/data/from_normal.bin
   readings    crates/sheet_list/data/relation_calls.bin: `joint_reading`, and whether a relation is judged to have rows
-  faults      sheets_fields.bin, sheets_refused.bin and sheets_limits.bin there: which number every sheet is refused with
-  solved      sheets_solved.bin there: where still bodies stand, every error at the poses, what converged says, what is filled in
+  faults      sheets_fields.bin, sheets_refused.bin, sheets_limits.bin and sheets_geared.bin there: which number every sheet is
+              refused with
+  solved      sheets_solved.bin, the Rust's, and sheets_geared.bin, our second program's: where still bodies stand, every error at
+              the poses, what converged says, what is filled in
   numbers     each number of the table "Numbers", and of the text on solving and freedom, stands in a definition named beside it
   names       each definition that the page names stands in the file that it names
   sketches    each sketch that the page shows is there, as tools/sketches.py draws it, and there is no other
@@ -552,9 +554,9 @@ def sheets_of(path):
 
 
 def compare_refused(d):
-    """sheets_refused.bin and sheets_limits.bin: the numbers 1 to 7 and 14, and none of them."""
+    """sheets_refused.bin, sheets_limits.bin and sheets_geared.bin: the numbers 1 to 7 and 14, and none of them."""
     numbers = Counter()
-    for name in ("sheets_refused.bin", "sheets_limits.bin"):
+    for name in ("sheets_refused.bin", "sheets_limits.bin", "sheets_geared.bin"):
         for i, (sheet, calls) in enumerate(sheets_of(SHEETS / name)):
             mine = sheet_fault(d, sheet)
             for head, answer in calls:
@@ -580,10 +582,17 @@ def unused_are_zero(d, v):
 
 
 def compare_solved(d):
-    """sheets_solved.bin: still bodies keep their frames' poses, errors are those of the page's rows, converged says whether all are within the tolerance."""
+    compare_answers(d, "sheets_solved.bin", [law for law in d.counts if law != "gear"])
+    compare_answers(d, "sheets_geared.bin", ["gear"])
+
+
+def compare_answers(d, name, laws):
+    """Still bodies keep their frames' poses, errors are those of the page's rows, converged says whether all are within the tolerance. The list has these laws."""
     tolerance = float(next(r["value"] for r in d.table("Numbers", "number").rows if r["number"].startswith("`ASSEMBLY`")))
-    relations, still, frames, freedoms, flags = 0, 0, 0, 0, Counter()
-    for i, (sheet, calls) in enumerate(sheets_of(SHEETS / "sheets_solved.bin")):
+    relations, still, frames, freedoms, flags = Counter(), 0, 0, 0, Counter()
+    for i, (sheet, calls) in enumerate(sheets_of(SHEETS / name)):
+        if sheet_fault(d, sheet):
+            continue
         header = d.read("Header", sheet, 0)
         m, k = header["m"], header["k"]
         bodies = [d.read("Body", sheet, header["bodies"] + d.sizes["Body"] * j) for j in range(m)]
@@ -596,31 +605,32 @@ def compare_solved(d):
                 for j in range(m):
                     freedoms += 1
                     if not unused_are_zero(d, doubles[29 * j:29 * j + 29]):
-                        problem(f"sheets_solved.bin, sheet {i}: the freedom of body {j} is not laid out as on the page")
+                        problem(f"{name}, sheet {i}: the freedom of body {j} is not laid out as on the page")
             if head[0] != 3 or refused:
                 continue
             doubles = struct.unpack_from(f"<{24 * m + k}d", answer, 16)
             poses, errors = [pose_of(doubles[12 * j:12 * j + 12], *d.filled["pose"]) for j in range(m)], doubles[24 * m:]
             mine = [largest([v for v, _ in d.rows(rel, poses)]) for rel in rels]
             if not same(mine, errors):
-                problem(f"sheets_solved.bin, sheet {i}: the errors differ")
+                problem(f"{name}, sheet {i}: the errors differ")
             if first != all(e <= tolerance for e in mine):
-                problem(f"sheets_solved.bin, sheet {i}: converged is {first} in the list")
+                problem(f"{name}, sheet {i}: converged is {first} in the list")
             for j, body in enumerate(bodies):
                 frame = doubles[12 * (m + j):12 * (m + j) + 12]
                 frame = {name: tuple(frame[n] for n in part) for name, part in zip(("origin", "x", "y", "z"), d.filled["frame"])}
                 frames += 1
                 if not same(frame["origin"], poses[j]["t"]) and frame != {name: body[name] for name in frame}:
-                    problem(f"sheets_solved.bin, sheet {i}: the frame of body {j} stands neither at its pose nor where it was")
+                    problem(f"{name}, sheet {i}: the frame of body {j} stands neither at its pose nor where it was")
                 if body["fixed"] or j not in named:
                     still += 1
                     if any(not same(d.pose(body)[part], poses[j][part]) for part in poses[j]):
-                        problem(f"sheets_solved.bin, sheet {i}: body {j} does not stand where its frame puts it")
-            relations += k
+                        problem(f"{name}, sheet {i}: body {j} does not stand where its frame puts it")
+            relations.update(d.numbers["law"][rel["law"]] for rel in rels)
             flags[first] += 1
-    if not (relations and still and frames and freedoms and flags[0] and flags[1]):
-        problem("sheets_solved.bin: not all was compared")
-    print(f"solved: errors of {relations} relations at the poses found, {still} of {frames} bodies that stay, {flags[1]} answers converged and {flags[0]} not; {freedoms} freedoms")
+    if not (all(relations[law] for law in laws) and still and frames and freedoms and flags[0] and flags[1]):
+        problem(f"{name}: not all was compared")
+    print(f"solved: {name}, errors of {sum(relations.values())} relations at the poses found, {still} of {frames} bodies that stay, {flags[1]} answers converged and {flags[0]} not; {freedoms} freedoms")
+    print("  relations by law " + ", ".join(f"{law}: {relations[law]}" for law in d.counts if relations[law]))
 
 
 # ---- what the page names
