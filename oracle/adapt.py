@@ -1,9 +1,10 @@
-"""Writes the two Rust crates that the oracle is built from, out of the unchanged tenon sources.
+"""Writes the three Rust crates that the oracle is built from, out of the unchanged tenon sources.
 
     python3 adapt.py TENON_SRC OUT
 
 OUT/tenon is tenon's solver, OUT/tenon_max the same with `max` as document 01 has it (the larger zero
-is +0), which tells whether that difference ever shows. Nothing of either is kept in the repository.
+is +0), which tells whether that difference ever shows, OUT/tenon_gear the second with law 7, a gear,
+whose row is that of src/gear.rs. Nothing of them is kept in the repository.
 
 Every change is a textual substitution with the number of places it must meet. Where a source is not
 as expected, the build stops here and says which substitution failed.
@@ -55,6 +56,29 @@ CHANGES = {
          "let errors = rel_errors(rels, &poses);\n    Solution { poses, frames, converged: outcome.converged, errors }", 1),
     ],
 }
+
+# What puts the gear into solve.rs of tenon_gear: (old, new), each found once.
+GEAR = [
+    ("        flip: bool,\n        offset: f64,\n        angle: f64,\n    },\n}",
+     "        flip: bool,\n        offset: f64,\n        angle: f64,\n    },\n    Gear {\n        carrier: End,\n        angle: f64,\n        teeth: [u16; 2],\n    },\n}"),
+    ("        Law::Joint { .. } => Ok(()),\n", "        Law::Joint { .. } | Law::Gear { .. } => Ok(()),\n"),
+    ("if let Law::Symmetry { plane } = &self.law {", "if let Law::Symmetry { plane } | Law::Gear { carrier: plane, .. } = &self.law {"),
+    ("        Law::Joint { joint, flip, offset, angle } => {\n            let (oa, xa, za) = joint_frame(&rel.a, &qa);\n",
+     """        Law::Gear { carrier, angle, teeth } => {
+            let end = |e: End| gear::End {
+                point: [e.prim.point().x, e.prim.point().y, e.prim.point().z],
+                direction: e.prim.direction().map(|d| [d.x, d.y, d.z]),
+                mirrored: e.mirrored,
+            };
+            let wheels = gear::Gear { teeth, angle, ends: [rel.a, rel.b, carrier].map(end) };
+            out.push(wheels.row(&[qa.r.0, qb.r.0, pose(&carrier).r.0]));
+        }
+        Law::Joint { joint, flip, offset, angle } => {
+            let (oa, xa, za) = joint_frame(&rel.a, &qa);
+"""),
+    ("| Law::Tangent { .. } | Law::Symmetry { .. } => None,", "| Law::Tangent { .. } | Law::Symmetry { .. } | Law::Gear { .. } => None,"),
+    ("Law::Angle { .. } | Law::Symmetry { .. } => Vec3::ZERO,", "Law::Angle { .. } | Law::Symmetry { .. } | Law::Gear { .. } => Vec3::ZERO,"),
+]
 
 # Counters of branches: name, file, old, new with HIT where the counter goes, each found once.
 BRANCHES = [
@@ -187,21 +211,24 @@ def main(source, out):
         names.append(name)
     root = ROOT + constants + "pub const NAMES: [&str; %d] = %s;\n" % (
         len(names), "[" + ", ".join('"%s"' % n for n in names) + "]")
-    for crate in ("tenon", "tenon_max"):
+    for crate in ("tenon", "tenon_max", "tenon_gear"):
         folder = pathlib.Path(out) / crate
         folder.mkdir(parents=True, exist_ok=True)
         (folder / "lib.rs").write_text(root)
         (folder / "model.rs").write_text(joint)
         for name, text in texts.items():
             short = name.rsplit("/", 1)[1]
-            if crate == "tenon_max" and short in ("lm.rs", "math.rs", "solve.rs"):
+            if crate != "tenon" and short in ("lm.rs", "math.rs", "solve.rs"):
                 text, n = re.subn(r"\.max\(", ".max01(", text)
                 text, f = re.subn(r"f64::max\)", "crate::max01)", text)
                 if (n, f) != {"lm.rs": (7, 1), "math.rs": (1, 1), "solve.rs": (4, 2)}[short]:
                     fail(f"{name}: {n} and {f} places of max")
                 text = re.sub(r"\nuse |\n#\[derive|\n/// Most residual", lambda m: "\nuse crate::Max01;" + m.group(0), text, count=1)
+            if crate == "tenon_gear" and short == "solve.rs":
+                for old, new in GEAR:
+                    text = replace(text, old, new, 1, name)
             (folder / short).write_text(text)
-    print(f"adapt: {done} places changed in {len(CHANGES) + 2} files of tenon, {len(names)} branch counters")
+    print(f"adapt: {done} places changed in {len(CHANGES) + 2} files of tenon, {len(GEAR)} more for the gear, {len(names)} branch counters")
 
 
 if __name__ == "__main__":

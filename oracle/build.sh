@@ -20,10 +20,15 @@ python3 adapt.py "$source_dir" build
 
 rust() { rustc --edition 2024 -C opt-level=3 -L build "$@"; }
 rust --crate-type rlib --crate-name arcs src/arcs.rs --out-dir build
-# The two copies of tenon need nothing of each other.
-tenon() { rust --crate-type rlib --crate-name "$1" "build/$1/lib.rs" --extern arcs=build/libarcs.rlib --out-dir build; }
+# The copies of tenon need nothing of each other.
+tenon() { rust --crate-type rlib --crate-name "$1" "build/$1/lib.rs" --extern arcs=build/libarcs.rlib "${@:2}" --out-dir build; }
 tenon tenon &
-tenon tenon_max
-wait $!
+first=$!
+tenon tenon_max &
+second=$!
+rust --crate-type rlib --crate-name gear src/gear.rs --extern arcs=build/libarcs.rlib --out-dir build
+tenon tenon_gear --extern gear=build/libgear.rlib
+wait $first
+wait $second
 rust --crate-name oracle src/main.rs --extern arcs=build/libarcs.rlib --extern tenon=build/libtenon.rlib \
-    --extern tenon_max=build/libtenon_max.rlib -L "native=$libs" -l static=sheet -l static=arcs -l m -o build/oracle
+    --extern tenon_max=build/libtenon_max.rlib --extern tenon_gear=build/libtenon_gear.rlib --extern gear=build/libgear.rlib -L "native=$libs" -l static=sheet -l static=arcs -l m -o build/oracle
