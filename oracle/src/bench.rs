@@ -2,7 +2,7 @@
 
 use crate::answer::Call;
 use crate::rng::Rng;
-use crate::{plain, port};
+use crate::{port, whole};
 
 pub fn run() -> bool {
     let mut rng = Rng(1);
@@ -47,7 +47,7 @@ pub fn sheets(files: &[&str]) -> bool {
         ];
         for (name, call) in calls {
             let theirs = milliseconds(&mut || {
-                std::hint::black_box(plain::answer(&bytes, call)).ok();
+                std::hint::black_box(whole::answer(&bytes, call)).ok();
             });
             let ours = milliseconds(&mut || port::run(&bytes, call, &mut scratch));
             println!("{name:6} {m:2} bodies, {k:3} relations: {ours:9.3} ms   Rust {theirs:9.3} ms   ratio {:.2}", ours / theirs);

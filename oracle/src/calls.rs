@@ -1,4 +1,4 @@
-// The calls on a sheet, answered by tenon: included once over `tenon` and once over `tenon_max`.
+// The calls on a sheet, answered by tenon: included over `tenon`, `tenon_max` and `tenon_gear`. Each place gives `gear_of`, the law of a gear.
 // A call's tests 13, 8, 11, 12, 10, 9 and its answer as document 01 lays them out.
 
 use crate::answer::{Answer, Call};
@@ -46,6 +46,7 @@ pub fn rel_of(r: &sheet::Relation) -> Rel {
         sheet::INSERT => Law::Insert { offset, aligned: flag },
         sheet::TANGENT => Law::Tangent { offset, inside: flag },
         sheet::SYMMETRY => Law::Symmetry { plane: end_of(&r.ends[2]) },
+        sheet::GEAR => gear_of(r),
         _ => Law::Joint { joint: JointKind::ALL[r.joint as usize], flip: flag, offset, angle },
     };
     Rel { law, a: end_of(&r.ends[0]), b: end_of(&r.ends[1]) }
@@ -92,7 +93,7 @@ fn test(passed: bool, number: u32) -> Result<(), u32> {
     if passed { Ok(()) } else { Err(number) }
 }
 
-/// The refusal of a call on a sheet that passes tests 1 to 7.
+/// The refusal of a call on a sheet that passes tests 1 to 7 and 14.
 fn refusal(scene: &Scene, call: Call) -> Result<(), u32> {
     let (m, k) = (scene.bodies.len(), scene.rels.len());
     match call {

@@ -6,7 +6,7 @@ use crate::cover::Cover;
 use crate::edges;
 use crate::rng::Rng;
 use crate::sheet::{self, GROUND, Sheet};
-use crate::{generate, plain, port, with_max01};
+use crate::{generate, port, whole, with_max01};
 use arcs::rule;
 
 /// Every case of a seed: N valid sheets with calls that are accepted, some with calls near their limits too, and N damaged ones;
@@ -77,9 +77,9 @@ fn cases(seed: u64, n: usize, mut ask: impl FnMut(&[u8], Call) -> Result<Answer,
 pub fn max_and_cover(seed: u64, n: usize) -> bool {
     let (mut calls, mut differ) = (0, 0);
     let cover = cases(seed, n, |bytes, call| {
-        let answer = plain::answer(bytes, call);
+        let answer = whole::answer(bytes, call);
         calls += 1;
-        if words(&answer) != words(&with_max01::answer(bytes, call)) {
+        if !whole::has_gear(bytes) && words(&answer) != words(&with_max01::answer(bytes, call)) {
             differ += 1;
         }
         answer
@@ -91,17 +91,17 @@ pub fn max_and_cover(seed: u64, n: usize) -> bool {
 }
 
 /// A count of comparisons and of the differences among them, the first few printed.
-struct Tally {
+pub struct Tally {
     what: &'static str,
     compared: u64,
     differ: u64,
 }
 
 impl Tally {
-    fn new(what: &'static str) -> Tally {
+    pub fn new(what: &'static str) -> Tally {
         Tally { what, compared: 0, differ: 0 }
     }
-    fn case(&mut self, same: bool, show: impl FnOnce() -> String) {
+    pub fn case(&mut self, same: bool, show: impl FnOnce() -> String) {
         self.compared += 1;
         if !same {
             self.differ += 1;
@@ -111,7 +111,7 @@ impl Tally {
         }
     }
     /// Prints the counts; whether something was compared and nothing differs.
-    fn done(&self) -> bool {
+    pub fn done(&self) -> bool {
         println!("{}: {} compared, {} differ", self.what, self.compared, self.differ);
         self.compared > 0 && self.differ == 0
     }
@@ -147,14 +147,15 @@ pub fn arcs(n: usize) -> bool {
     (0..n / 10).for_each(|_| one(1.0 + rng.range(-1.1e-8, 1.1e-8)));
     [sine, cosine, arctangent, root].iter().fold(true, |good, tally| tally.done() & good)
 }
+
 /// Keeps what was given to the two sides that differ, and says where.
-fn kept(name: &str, bytes: &[u8]) -> String {
+pub fn kept(name: &str, bytes: &[u8]) -> String {
     let file = format!("build/differs-{name}.sheet");
     std::fs::write(&file, bytes).map_or_else(|e| e.to_string(), |()| format!("kept as {file}"))
 }
 
 /// The sheet library beside the Rust: one scratch for all calls, never cleared, and what was compared.
-struct Library {
+pub struct Library {
     run: &'static str,
     scratch: Vec<f64>,
     tallies: [Tally; 5],
@@ -162,17 +163,17 @@ struct Library {
 }
 
 impl Library {
-    fn new(run: &'static str) -> Library {
+    pub fn new(run: &'static str) -> Library {
         let names = ["sheet_judge", "sheet_joint_reading", "sheet_snap", "sheet_solve", "sheet_dof"];
         Library { run, scratch: Vec::new(), tallies: names.map(Tally::new), by_max: 0 }
     }
 
     /// Compares answer or refusal, and what must stay as it was; gives the Rust's answer.
-    fn ask(&mut self, bytes: &[u8], call: Call) -> Result<Answer, u32> {
-        let answer = plain::answer(bytes, call);
+    pub fn ask(&mut self, bytes: &[u8], call: Call) -> Result<Answer, u32> {
+        let answer = whole::answer(bytes, call);
         let mut same = port::same(bytes, call, &answer, &mut self.scratch);
-        // Where only document 01's max of zeros sets them apart, that is a listed difference.
-        if !same && port::same(bytes, call, &with_max01::answer(bytes, call), &mut self.scratch) {
+        // Where only document 01's max of zeros sets them apart, that is a listed difference. The copy with gears has that max.
+        if !same && !whole::has_gear(bytes) && port::same(bytes, call, &with_max01::answer(bytes, call), &mut self.scratch) {
             self.by_max += 1;
             same = true;
         }
@@ -182,7 +183,7 @@ impl Library {
         answer
     }
 
-    fn done(&self) -> bool {
+    pub fn done(&self) -> bool {
         println!("answers that differ from the Rust's release by the max of two zeros alone: {}", self.by_max);
         self.tallies.iter().fold(true, |good, tally| tally.done() & good)
     }
@@ -233,7 +234,7 @@ pub fn report(program: &str, seed: u64, n: usize) -> bool {
         let mut child = Command::new(program).stdin(Stdio::piped()).stdout(Stdio::piped()).spawn().expect("cannot run report");
         child.stdin.take().unwrap().write_all(input).ok();
         let out = child.wait_with_output().unwrap();
-        let want = plain::report(input);
+        let want = whole::report(input);
         let name = format!("report-{}", tally.differ);
         tally.case(out.status.success() && out.stdout == want.as_bytes(), || {
             format!("{}, {}, expected\n{want}given\n{}", kept(&name, input), out.status, String::from_utf8_lossy(&out.stdout))

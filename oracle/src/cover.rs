@@ -5,16 +5,16 @@ use crate::sheet::*;
 use std::collections::BTreeMap;
 use std::sync::atomic::Ordering;
 
-const LAWS: [&str; 7] = ["mate", "flush", "angle", "insert", "tangent", "symmetry", "joint"];
+const LAWS: [&str; 8] = ["mate", "flush", "angle", "insert", "tangent", "symmetry", "joint", "gear"];
 const JOINTS: [&str; 6] = ["rigid", "revolute", "slider", "cylindrical", "planar", "ball"];
-const PRIMS: [&str; 4] = ["plane", "line", "point", "circle"];
+pub const PRIMS: [&str; 4] = ["plane", "line", "point", "circle"];
 /// The refusals that each call can give.
 const REFUSALS: [&[u32]; 5] = [
-    &[1, 2, 3, 4, 5, 6, 7, 11, 12, 13],
-    &[1, 2, 3, 4, 5, 6, 7, 13],
-    &[1, 2, 3, 4, 5, 6, 7, 10, 13],
-    &[1, 2, 3, 4, 5, 6, 7, 8, 9, 10],
-    &[1, 2, 3, 4, 5, 6, 7, 9, 10],
+    &[1, 2, 3, 4, 5, 6, 7, 11, 12, 13, 14],
+    &[1, 2, 3, 4, 5, 6, 7, 13, 14],
+    &[1, 2, 3, 4, 5, 6, 7, 10, 13, 14],
+    &[1, 2, 3, 4, 5, 6, 7, 8, 9, 10, 14],
+    &[1, 2, 3, 4, 5, 6, 7, 9, 10, 14],
 ];
 
 /// Branches that no sheet within the limits is known to reach. Rows and slopes stay finite there, so the first
@@ -33,11 +33,11 @@ const OUT_OF_REACH: [&str; 6] = [
 pub struct Cover(BTreeMap<String, u64>);
 
 impl Cover {
-    /// All kinds of relations, bodies, refusals and answers, at 0.
+    /// All kinds of relations of laws 0 to 6, bodies, refusals and answers, at 0.
     pub fn new() -> Cover {
         let mut c = Cover::default();
         let flags = |law: usize| if matches!(law as u8, INSERT | TANGENT | JOINT) { 0..2 } else { 0..1 };
-        for (law, name) in LAWS.iter().enumerate() {
+        for (law, name) in LAWS[..GEAR as usize].iter().enumerate() {
             for (a, b) in PRIMS.iter().flat_map(|a| PRIMS.iter().map(move |b| (a, b))) {
                 flags(law).for_each(|f| c.add(format!("relation {name} flag {f} {a}-{b}"), 0));
             }
@@ -50,13 +50,17 @@ impl Cover {
         PRIMS.iter().for_each(|p| c.add(format!("symmetry plane is a {p}"), 0));
         ["a", "b", "plane"].iter().for_each(|e| c.add(format!("end {e} on the ground"), 0));
         ["fixed named", "fixed unnamed", "free named", "free unnamed"].iter().for_each(|b| c.add(format!("body {b}"), 0));
-        for (call, refusals) in NAMES.iter().zip(REFUSALS) {
-            c.add(format!("call {call} accepted"), 0);
-            refusals.iter().for_each(|r| c.add(format!("call {call} refused {r:2}"), 0));
-        }
-        ["solve converged", "solve not converged", "solve with drag"].iter().for_each(|s| c.add(s.to_string(), 0));
+        c.want_calls();
         (0..4).flat_map(|s| (0..4).map(move |t| (s, t))).for_each(|(s, t)| c.add(format!("freedom {s} slides {t} turns"), 0));
         c
+    }
+    /// Every call accepted, refused by each number that it can give, and `solve` with each outcome.
+    pub fn want_calls(&mut self) {
+        for (call, refusals) in NAMES.iter().zip(REFUSALS) {
+            self.add(format!("call {call} accepted"), 0);
+            refusals.iter().for_each(|r| self.add(format!("call {call} refused {r:2}"), 0));
+        }
+        ["solve converged", "solve not converged", "solve with drag"].iter().for_each(|s| self.add(s.to_string(), 0));
     }
     pub fn add(&mut self, what: String, n: u64) {
         *self.0.entry(what).or_insert(0) += n;

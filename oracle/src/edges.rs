@@ -3,8 +3,8 @@
 
 use crate::answer::{Answer, Call, NAMES};
 use crate::cover::Cover;
-use crate::plain::Scene;
 use crate::sheet::*;
+use crate::whole;
 use std::sync::atomic::Ordering;
 
 /// How many rounds the Rust has taken in all, and how many second runs.
@@ -17,17 +17,17 @@ pub fn rounds() -> [u64; 2] {
 
 /// What a call is lent: each slice's name, its length, what it must be at least, and the number that a shorter one is refused by.
 fn slices(sheet: &Sheet, call: Call) -> Vec<(&'static str, usize, usize, u32)> {
-    let (scene, m, k) = (Scene::of(sheet), sheet.bodies.len(), sheet.relations.len());
+    let ((solve, dof), m, k) = (whole::scratch(sheet), sheet.bodies.len(), sheet.relations.len());
     match call {
         Call::Judge { .. } | Call::Reading { .. } => vec![],
         Call::Snap { motion, .. } => vec![("motion", motion, 12, 10)],
         Call::Solve { scratch, poses, frames, errors, .. } => vec![
-            ("scratch", scratch, scene.solve_scratch(), 9),
+            ("scratch", scratch, solve, 9),
             ("poses", poses, 12 * m, 10),
             ("frames", frames, 12 * m, 10),
             ("errors", errors, k, 10),
         ],
-        Call::Dof { scratch, freedoms } => vec![("scratch", scratch, scene.dof_scratch(), 9), ("freedoms", freedoms, 29 * m, 10)],
+        Call::Dof { scratch, freedoms } => vec![("scratch", scratch, dof, 9), ("freedoms", freedoms, 29 * m, 10)],
     }
 }
 
@@ -114,7 +114,7 @@ impl Cover {
         }
         let (Answer::Solve { converged, .. }, Call::Solve { drag, .. }) = (answer, call) else { return };
         let size = if bodies && relations { "64 bodies and 128 relations" } else { "fewer bodies" };
-        match (Scene::of(&read(bytes).unwrap()).rows(), rounds) {
+        match (whole::rows(&read(bytes).unwrap()), rounds) {
             (800, 1..) => self.add(format!("solve of 800 rows iterated, {size}"), 1),
             // Where the relations hold at the start, no number of rows is iterated.
             (801, 0) if !converged => self.add(format!("solve of 801 rows not iterated, {size}"), 1),
@@ -151,7 +151,7 @@ impl Cover {
             self.add(format!("report {said}, input too long"), 1);
         }
         let Ok(sheet) = read(input) else { return };
-        let (solve, dof) = (Scene::of(&sheet).solve_scratch(), Scene::of(&sheet).dof_scratch());
+        let (solve, dof) = whole::scratch(&sheet);
         for (met, what) in [
             (sheet.bodies.len() == MOST_BODIES && sheet.relations.len() == MOST_RELATIONS, "64 bodies and 128 relations"),
             (solve == 8192, "8192 doubles for solve"),

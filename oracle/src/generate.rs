@@ -1,25 +1,26 @@
-//! Sheets by seed. `sheet(rng, index)` is valid: it passes tests 1 to 7. Its first relation goes through
-//! every law, joint kind, flag and pair of primitives as the index grows; the rest is by chance.
+//! Sheets by seed, of laws 0 to 6; trains.rs has those with gears. `sheet(rng, index)` is valid: it passes tests 1 to 7. Its first relation
+//! goes through every law, joint kind, flag and pair of primitives as the index grows; the rest is by chance.
 //! `damaged` and `calls` put faults into sheets and into what is lent with them.
 
 use crate::answer::Call;
-use crate::plain::{Scene, body_of, frame_of, list, rel_of};
+use crate::plain::{body_of, frame_of, list, rel_of};
 use crate::rng::Rng;
 use crate::sheet::*;
+use crate::whole;
 use tenon::math::{M3, rotation_between};
 use tenon::solve::{self, Motion};
 use tenon::{Frame, Vec3};
 
 /// The kind of one relation: law, joint, flag, primitives of its three ends.
 #[derive(Clone, Copy)]
-struct Kind {
-    law: u8,
-    joint: u8,
-    flag: u8,
-    prims: [u8; 3],
+pub struct Kind {
+    pub law: u8,
+    pub joint: u8,
+    pub flag: u8,
+    pub prims: [u8; 3],
 }
 
-fn kinds() -> Vec<Kind> {
+pub fn kinds() -> Vec<Kind> {
     let mut out = Vec::new();
     for law in 0..7 {
         let joints = if law == JOINT { 0..6 } else { 0..1 };
@@ -36,29 +37,29 @@ fn kinds() -> Vec<Kind> {
 
 /// How coordinates are chosen: small halves and axes (many exact zeros), or any.
 #[derive(Clone, Copy, PartialEq)]
-enum Style {
+pub enum Style {
     Lattice,
     Any,
 }
 
-struct Maker<'a> {
-    rng: &'a mut Rng,
-    style: Style,
+pub struct Maker<'a> {
+    pub rng: &'a mut Rng,
+    pub style: Style,
     /// The bodies at a placement that the relations are made to hold at, with their true frames.
-    bodies: Vec<Body>,
+    pub bodies: Vec<Body>,
 }
 
 impl Maker<'_> {
-    fn number(&mut self, most: f64) -> f64 {
+    pub fn number(&mut self, most: f64) -> f64 {
         match self.style {
             Style::Lattice => self.rng.pick(&[0.0, 0.0, -0.0, 0.5, 1.0, -1.0, 2.0, -3.0]),
             Style::Any => self.rng.range(-most, most),
         }
     }
-    fn position(&mut self) -> Vec3 {
+    pub fn position(&mut self) -> Vec3 {
         Vec3::new(self.number(20.0), self.number(20.0), self.number(20.0))
     }
-    fn direction(&mut self) -> Vec3 {
+    pub fn direction(&mut self) -> Vec3 {
         if self.style == Style::Lattice {
             return self.rng.pick(&[Vec3::X, Vec3::Y, Vec3::Z, -Vec3::X, -Vec3::Y, -Vec3::Z]);
         }
@@ -78,7 +79,7 @@ impl Maker<'_> {
             }
         }
     }
-    fn turning(&mut self) -> M3 {
+    pub fn turning(&mut self) -> M3 {
         if self.style == Style::Lattice {
             let z = self.direction();
             let x = self.across(z);
@@ -86,7 +87,7 @@ impl Maker<'_> {
         }
         M3::exp(self.direction() * self.rng.range(0.0, 3.1))
     }
-    fn body(&mut self) -> Body {
+    pub fn body(&mut self) -> Body {
         let (r, t) = (self.turning(), self.position());
         let mut b = Body { size: self.rng.pick(&[0.0, 2.0, 3.0, 10.0, 100.0, -4.0]), ..Body::default() };
         b.frame = [list(t), list(r.col(0)), list(r.col(1)), list(r.col(2))];
@@ -97,7 +98,7 @@ impl Maker<'_> {
         self.bodies.get(body as usize).map_or(Frame::WORLD, |b| frame_of(b.frame))
     }
     /// An end on a body with the given geometry of the assembly.
-    fn end(&mut self, body: u16, prim: u8, point: Vec3, direction: Vec3) -> End {
+    pub fn end(&mut self, body: u16, prim: u8, point: Vec3, direction: Vec3) -> End {
         let f = self.frame(body);
         End {
             prim,
@@ -110,7 +111,7 @@ impl Maker<'_> {
     }
 
     /// A relation of the given kind that holds where the bodies now stand, wherever that can be.
-    fn relation(&mut self, kind: Kind, bodies: [u16; 3]) -> Relation {
+    pub fn relation(&mut self, kind: Kind, bodies: [u16; 3]) -> Relation {
         let mut r = Relation { law: kind.law, joint: kind.joint, flag: kind.flag, ..Relation::default() };
         r.offset = self.number(5.0);
         r.angle = self.number(3.0);
@@ -179,7 +180,7 @@ impl Maker<'_> {
 }
 
 /// A body's frame and centre moved by a motion.
-fn moved(b: &mut Body, m: &Motion) {
+pub fn moved(b: &mut Body, m: &Motion) {
     let turned = |v: [f64; 3]| list(m.r.apply(crate::plain::vec3(v)));
     let [o, x, y, z] = b.frame;
     let place = |v: [f64; 3]| list(m.r.apply(crate::plain::vec3(v)) + m.t);
@@ -188,7 +189,7 @@ fn moved(b: &mut Body, m: &Motion) {
 }
 
 /// Moves a body off the place where its relations hold.
-fn displace(maker: &mut Maker, b: &mut Body) {
+pub fn displace(maker: &mut Maker, b: &mut Body) {
     let center = crate::plain::vec3(b.center);
     let (r, t) = match maker.rng.below(6) {
         0 => return,
@@ -208,7 +209,7 @@ fn displace(maker: &mut Maker, b: &mut Body) {
 }
 
 /// Brings every double within its limit, and a NaN to 0.
-fn limited(sheet: &mut Sheet) {
+pub fn limited(sheet: &mut Sheet) {
     let fit = |v: &mut f64, most: f64| *v = if v.is_nan() { 0.0 } else { v.clamp(-most, most) };
     for b in &mut sheet.bodies {
         b.frame[0].iter_mut().chain(&mut b.center).for_each(|v| fit(v, SIZE));
@@ -226,7 +227,7 @@ fn limited(sheet: &mut Sheet) {
 }
 
 /// Makes something odd of a valid sheet, which stays valid.
-fn degrade(rng: &mut Rng, sheet: &mut Sheet) {
+pub fn degrade(rng: &mut Rng, sheet: &mut Sheet) {
     let odd = |rng: &mut Rng| {
         rng.pick(&[
             0.0,
@@ -689,9 +690,8 @@ pub fn damaged(rng: &mut Rng, sheet: &Sheet) -> Vec<u8> {
 /// Calls on a sheet with lengths and numbers at, just under and over what they must be.
 /// `sheet` is what the bytes hold where they hold one.
 pub fn calls(rng: &mut Rng, sheet: Option<&Sheet>) -> Vec<Call> {
-    let scene = sheet.map(Scene::of);
-    let (m, k) = scene.as_ref().map_or((1, 1), |s| (s.bodies.len(), s.rels.len()));
-    let (solve, dof) = scene.as_ref().map_or((9, 9), |s| (s.solve_scratch(), s.dof_scratch()));
+    let (m, k) = sheet.map_or((1, 1), |s| (s.bodies.len(), s.relations.len()));
+    let (solve, dof) = sheet.map_or((9, 9), whole::scratch);
     let near = |rng: &mut Rng, n: usize| match rng.below(12) {
         0 => n.saturating_sub(1),
         1 => n + 1,
@@ -717,7 +717,7 @@ pub fn calls(rng: &mut Rng, sheet: Option<&Sheet>) -> Vec<Call> {
 
 /// The same calls with nothing short, some lengths longer than they must be: every relation, and one drag.
 pub fn good_calls(rng: &mut Rng, sheet: &Sheet) -> Vec<Call> {
-    let scene = Scene::of(sheet);
+    let (solve, dof) = whole::scratch(sheet);
     let (m, k) = (sheet.bodies.len(), sheet.relations.len());
     let drag = if rng.one_in(2) { GROUND } else { rng.below(m.max(1)) as u16 };
     let mut out = Vec::new();
@@ -726,8 +726,8 @@ pub fn good_calls(rng: &mut Rng, sheet: &Sheet) -> Vec<Call> {
     }
     let drag = if m == 0 { GROUND } else { drag };
     let mut more = |n: usize| n + rng.pick(&[0, 0, 1, 17]);
-    out.push(Call::Solve { drag, scratch: more(scene.solve_scratch()), poses: more(12 * m), frames: more(12 * m), errors: more(k) });
-    out.push(Call::Dof { scratch: more(scene.dof_scratch()), freedoms: more(29 * m) });
+    out.push(Call::Solve { drag, scratch: more(solve), poses: more(12 * m), frames: more(12 * m), errors: more(k) });
+    out.push(Call::Dof { scratch: more(dof), freedoms: more(29 * m) });
     out
 }
 
@@ -745,13 +745,13 @@ pub fn calls_on_one() -> [Call; 5] {
 /// Calls with exact lengths: those of every relation and of the number after the last, `solve` with each drag, and `dof`; and `solve`
 /// and `dof` with each slice one double short.
 pub fn exact_calls(sheet: &Sheet, drags: &[u16]) -> Vec<Call> {
-    let scene = Scene::of(sheet);
+    let (for_solve, for_dof) = whole::scratch(sheet);
     let (m, k) = (sheet.bodies.len(), sheet.relations.len());
     let mut out = Vec::new();
     for relation in 0..=k as u16 {
         out.extend([Call::Judge { relation }, Call::Reading { relation }, Call::Snap { relation, motion: 12 }]);
     }
-    let need = [scene.solve_scratch(), 12 * m, 12 * m, k];
+    let need = [for_solve, 12 * m, 12 * m, k];
     let solve = |drag: u16, [scratch, poses, frames, errors]: [usize; 4]| Call::Solve { drag, scratch, poses, frames, errors };
     out.extend(drags.iter().map(|drag| solve(*drag, need)));
     for i in 0..4 {
@@ -759,7 +759,7 @@ pub fn exact_calls(sheet: &Sheet, drags: &[u16]) -> Vec<Call> {
         short[i] = short[i].saturating_sub(1);
         out.push(solve(GROUND, short));
     }
-    let (scratch, freedoms) = (scene.dof_scratch(), 29 * m);
+    let (scratch, freedoms) = (for_dof, 29 * m);
     out.extend([Call::Dof { scratch, freedoms }, Call::Dof { scratch, freedoms: freedoms.saturating_sub(1) }]);
     out.push(Call::Dof { scratch: scratch.saturating_sub(1), freedoms });
     out

@@ -7,6 +7,7 @@ use crate::generate;
 use crate::plain::{self, list, vec3};
 use crate::rng::Rng;
 use crate::sheet::{Body, Relation, Sheet};
+use crate::whole;
 use std::sync::atomic::Ordering;
 use tenon::math::{M3, frame_of, rotation_between, span_basis, sym_eigen};
 use tenon::{Frame, Vec3, lm, solve};
@@ -312,7 +313,7 @@ fn solver_lists(dir: &str, rng: &mut Rng, scale: usize) {
         let mut sheet_bytes = Vec::new();
         bodies.iter().for_each(|b| b.write(&mut sheet_bytes));
         let bytes = Sheet { bodies: bodies.to_vec(), relations: vec![r] }.bytes();
-        let ask = |call: Call| words(&plain::answer(&bytes, call));
+        let ask = |call: Call| words(&whole::answer(&bytes, call));
         let (judge, reading) = (ask(Call::Judge { relation: 0 }), ask(Call::Reading { relation: 0 }));
         let snap = ask(Call::Snap { relation: 0, motion: 12 });
         calls.put_words(&[&relation_words(&r)[..], &record_words(&sheet_bytes), &judge, &reading[1..], &snap[1..]].concat());
@@ -344,7 +345,7 @@ fn sheet_words(bytes: &[u8], calls: &[Call]) -> Vec<u64> {
             Call::Solve { drag, scratch, poses, frames, errors } => [3, drag as usize, scratch, poses, frames, errors],
             Call::Dof { scratch, freedoms } => [4, 0, scratch, freedoms, 0, 0],
         };
-        let answer = words(&plain::answer(bytes, *call));
+        let answer = words(&whole::answer(bytes, *call));
         out.extend(head.map(|n| n as u64));
         out.push(answer.len() as u64);
         out.extend(answer);
@@ -369,7 +370,7 @@ fn sheet_lists(dir: &str, rng: &mut Rng, scale: usize) {
         let calls = generate::good_calls(rng, &sheet);
         cover.sheet(&sheet);
         let solved = [calls[calls.len() - 2], calls[calls.len() - 1]];
-        solved.iter().for_each(|c| cover.call(*c, &plain::answer(&bytes, *c)));
+        solved.iter().for_each(|c| cover.call(*c, &whole::answer(&bytes, *c)));
         let fresh = (cover.reached(), taken()) != before;
         if (fresh || i % 100 == 99 || scale > 1) && valid.words.len() < 36_000 * scale {
             valid.put_words(&sheet_words(&bytes, &solved));
@@ -386,7 +387,7 @@ fn sheet_lists(dir: &str, rng: &mut Rng, scale: usize) {
             continue;
         }
         let calls = generate::calls(rng, read.as_ref().ok());
-        let answers: Vec<u64> = calls.iter().map(|c| words(&plain::answer(&bytes, *c))[0]).collect();
+        let answers: Vec<u64> = calls.iter().map(|c| words(&whole::answer(&bytes, *c))[0]).collect();
         let times = seen.entry(answers).or_insert(0);
         *times += 1;
         if *times <= 8 {
@@ -404,7 +405,7 @@ fn sheet_lists(dir: &str, rng: &mut Rng, scale: usize) {
             let mut changed = sheet.clone();
             changed[at] = word;
             let bytes: Vec<u8> = changed.iter().flat_map(|w| w.to_le_bytes()).collect();
-            record.extend([at as u64, word, words(&plain::answer(&bytes, Call::Judge { relation: 0 }))[0]]);
+            record.extend([at as u64, word, words(&whole::answer(&bytes, Call::Judge { relation: 0 }))[0]]);
         }
         fields.put_words(&record);
     }

@@ -13,17 +13,33 @@ mod lists;
 mod port;
 mod rng;
 mod sheet;
+mod whole;
 
 /// The calls as tenon answers them.
 mod plain {
     use tenon;
     include!("calls.rs");
+    fn gear_of(_: &sheet::Relation) -> Law {
+        panic!("tenon has no gear")
+    }
 }
 /// The calls as tenon answers them with document 01's `max`.
 mod with_max01 {
     #![allow(dead_code)]
     use tenon_max as tenon;
     include!("calls.rs");
+    fn gear_of(_: &sheet::Relation) -> Law {
+        panic!("tenon has no gear")
+    }
+}
+/// The calls as tenon answers them with document 01's `max` and with the second program's gears.
+mod with_gears {
+    #![allow(dead_code)]
+    use tenon_gear as tenon;
+    include!("calls.rs");
+    fn gear_of(r: &sheet::Relation) -> Law {
+        Law::Gear { carrier: end_of(&r.ends[2]), angle: r.angle, teeth: r.teeth }
+    }
 }
 
 use std::io::Read;
@@ -51,7 +67,7 @@ fn main() {
         ["report"] => {
             let mut input = Vec::new();
             std::io::stdin().read_to_end(&mut input).unwrap();
-            print!("{}", plain::report(&input));
+            print!("{}", whole::report(&input));
             true
         }
         ["gen", seed, n, dir] => write_sheets(number(seed) as u64, number(n), dir),
@@ -84,7 +100,7 @@ fn print_answers(file: &str, drag: u16) -> bool {
     calls.push(answer::Call::Solve { drag, scratch: lots, poses: lots, frames: lots, errors: lots });
     calls.push(answer::Call::Dof { scratch: lots, freedoms: lots });
     for call in calls {
-        print!("{}", answer::text(call, &plain::answer(&bytes, call)));
+        print!("{}", answer::text(call, &whole::answer(&bytes, call)));
     }
     true
 }

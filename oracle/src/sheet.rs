@@ -1,4 +1,4 @@
-//! The sheet: its records, a writer, and a reader with tests 1 to 7, written from document 01 alone.
+//! The sheet: its records, a writer, and a reader with tests 1 to 7 and 14, written from document 01 and request 1/14 alone.
 
 pub const GROUND: u16 = 65535;
 /// The most that a double of a direction, frame axis or reference may be in magnitude.
@@ -7,6 +7,7 @@ pub const AXIS: f64 = 1.01;
 pub const SIZE: f64 = 1000.0;
 pub const MOST_BODIES: usize = 64;
 pub const MOST_RELATIONS: usize = 128;
+pub const MOST_TEETH: u16 = 400;
 
 pub const MATE: u8 = 0;
 pub const FLUSH: u8 = 1;
@@ -15,6 +16,7 @@ pub const INSERT: u8 = 3;
 pub const TANGENT: u8 = 4;
 pub const SYMMETRY: u8 = 5;
 pub const JOINT: u8 = 6;
+pub const GEAR: u8 = 7;
 
 pub const PLANE: u8 = 0;
 pub const LINE: u8 = 1;
@@ -46,10 +48,12 @@ pub struct Relation {
     pub law: u8,
     pub joint: u8,
     pub flag: u8,
+    /// Of wheel a and wheel b.
+    pub teeth: [u16; 2],
     pub offset: f64,
     pub angle: f64,
     pub reference: [f64; 3],
-    /// a, b and symmetry's plane.
+    /// a, b and symmetry's plane or a gear's carrier.
     pub ends: [End; 3],
 }
 
@@ -81,7 +85,8 @@ impl End {
 
 impl Relation {
     pub fn write(&self, out: &mut Vec<u8>) {
-        out.extend([self.law, self.joint, self.flag, 0, 0, 0, 0, 0]);
+        out.extend([self.law, self.joint, self.flag, 0]);
+        self.teeth.iter().for_each(|teeth| out.extend(teeth.to_le_bytes()));
         put(out, &[self.offset, self.angle]);
         put(out, &self.reference);
         for end in &self.ends {
@@ -91,7 +96,7 @@ impl Relation {
 
     /// The ends that its law uses.
     pub fn used_ends(&self) -> &[End] {
-        &self.ends[..if self.law == SYMMETRY { 3 } else { 2 }]
+        &self.ends[..if Uses::of(self.law).third_end { 3 } else { 2 }]
     }
 
     /// The same relation with every field that has no use set to 0.
@@ -112,12 +117,15 @@ impl Relation {
         if !uses.joint {
             self.joint = 0;
         }
+        if !uses.teeth {
+            self.teeth = [0; 2];
+        }
         for (i, end) in self.ends.iter_mut().enumerate() {
             if i == 2 && !uses.third_end {
                 *end = End::default();
                 continue;
             }
-            if !uses.joint {
+            if !uses.mirrored {
                 end.mirrored = 0;
             }
             if !uses.radius {
@@ -135,6 +143,9 @@ impl Relation {
 }
 
 impl Sheet {
+    pub fn has_gear(&self) -> bool {
+        self.relations.iter().any(|r| r.law == GEAR)
+    }
     pub fn bytes(&self) -> Vec<u8> {
         let (m, k) = (self.bodies.len() as u16, self.relations.len() as u16);
         let mut out = Vec::new();
@@ -160,13 +171,15 @@ fn length(m: u16, k: u16) -> u32 {
     body_end(m) + 264 * k as u32
 }
 
-/// Which fields a law uses. The joint and mirrored bytes go together.
+/// Which fields a law uses.
 struct Uses {
     offset: bool,
     angle: bool,
     reference: bool,
     flag: bool,
     joint: bool,
+    mirrored: bool,
+    teeth: bool,
     radius: bool,
     third_end: bool,
 }
@@ -175,12 +188,14 @@ impl Uses {
     fn of(law: u8) -> Uses {
         Uses {
             offset: matches!(law, MATE | FLUSH | INSERT | TANGENT | JOINT),
-            angle: matches!(law, ANGLE | JOINT),
+            angle: matches!(law, ANGLE | JOINT | GEAR),
             reference: law == ANGLE,
             flag: matches!(law, INSERT | TANGENT | JOINT),
             joint: law == JOINT,
+            mirrored: matches!(law, JOINT | GEAR),
+            teeth: law == GEAR,
             radius: law == TANGENT,
-            third_end: law == SYMMETRY,
+            third_end: matches!(law, SYMMETRY | GEAR),
         }
     }
 }
@@ -211,6 +226,11 @@ impl<'a> Fields<'a> {
     fn half(&mut self) -> u16 {
         u16::from_le_bytes(self.take(2).try_into().unwrap())
     }
+    fn half_if(&mut self, used: bool) -> u16 {
+        let h = self.half();
+        self.bad |= !used && h != 0;
+        h
+    }
     fn double(&mut self, used: bool, limit: f64) -> f64 {
         let bits = u64::from_le_bytes(self.take(8).try_into().unwrap());
         let d = f64::from_bits(bits);
@@ -239,7 +259,7 @@ impl<'a> Fields<'a> {
             return End::default();
         }
         let prim = self.byte(true, 3);
-        let mirrored = self.byte(law.joint, 1);
+        let mirrored = self.byte(law.mirrored, 1);
         let body = self.half();
         self.zeros(4);
         End {
@@ -254,15 +274,17 @@ impl<'a> Fields<'a> {
     }
 
     fn relation(&mut self) -> Relation {
-        let law = self.byte(true, 6);
+        let law = self.byte(true, 7);
         let uses = Uses::of(law);
         let joint = self.byte(uses.joint, 5);
         let flag = self.byte(uses.flag, 1);
-        self.zeros(5);
+        self.zeros(1);
+        let teeth = [(); 2].map(|()| self.half_if(uses.teeth));
         Relation {
             law,
             joint,
             flag,
+            teeth,
             offset: self.double(uses.offset, SIZE),
             angle: self.double(uses.angle, SIZE),
             reference: self.three(uses.reference, AXIS),
@@ -271,7 +293,7 @@ impl<'a> Fields<'a> {
     }
 }
 
-/// The sheet in `bytes`, or the number of the first of the tests 1 to 7 that refuses it.
+/// The sheet in `bytes`, or the number of the first of the tests 1 to 7 and 14 that refuses it.
 pub fn read(bytes: &[u8]) -> Result<Sheet, u32> {
     if bytes.len() < 24 {
         return Err(1);
@@ -293,25 +315,22 @@ pub fn read(bytes: &[u8]) -> Result<Sheet, u32> {
     for record in bodies.chunks(136) {
         let mut fields = Fields { bytes: record, bad: false, over: false };
         sheet.bodies.push(fields.body());
-        fields.judge(false)?;
+        fields.judge(false, false)?;
     }
     for record in relations.chunks(264) {
         let mut fields = Fields { bytes: record, bad: false, over: false };
         let relation = fields.relation();
-        fields.judge(relation.used_ends().iter().any(|e| e.body != GROUND && e.body >= m))?;
+        let no_wheel = relation.law == GEAR && relation.teeth.iter().any(|teeth| *teeth == 0 || *teeth > MOST_TEETH);
+        fields.judge(no_wheel, relation.used_ends().iter().any(|e| e.body != GROUND && e.body >= m))?;
         sheet.relations.push(relation);
     }
     Ok(sheet)
 }
 
 impl Fields<'_> {
-    /// Tests 5, 6, 7 of one record.
-    fn judge(&self, no_body: bool) -> Result<(), u32> {
-        match (self.bad, no_body, self.over) {
-            (true, _, _) => Err(5),
-            (_, true, _) => Err(6),
-            (_, _, true) => Err(7),
-            _ => Ok(()),
-        }
+    /// Tests 5, 14, 6, 7 of one record.
+    fn judge(&self, no_wheel: bool, no_body: bool) -> Result<(), u32> {
+        let tests = [(self.bad, 5), (no_wheel, 14), (no_body, 6), (self.over, 7)];
+        tests.iter().find(|(fails, _)| *fails).map_or(Ok(()), |(_, number)| Err(*number))
     }
 }

@@ -1,0 +1,30 @@
+//! Which copy of tenon answers: the one with gears for a sheet that has a gear, tenon itself for every other.
+
+use crate::answer::{Answer, Call};
+use crate::sheet::{self, Sheet};
+use crate::{plain, with_gears};
+
+pub fn has_gear(bytes: &[u8]) -> bool {
+    sheet::read(bytes).is_ok_and(|s| s.has_gear())
+}
+
+/// The answer of a call on any bytes, or the number it is refused with.
+pub fn answer(bytes: &[u8], call: Call) -> Result<Answer, u32> {
+    if has_gear(bytes) { with_gears::answer(bytes, call) } else { plain::answer(bytes, call) }
+}
+
+/// What the program `report` prints for what it reads.
+pub fn report(input: &[u8]) -> String {
+    if has_gear(input) { with_gears::report(input) } else { plain::report(input) }
+}
+
+/// The scratch in doubles that `solve` and `dof` need. Both copies count the same where there is no gear.
+pub fn scratch(sheet: &Sheet) -> (usize, usize) {
+    let scene = with_gears::Scene::of(sheet);
+    (scene.solve_scratch(), scene.dof_scratch())
+}
+
+/// R, the sheet's row count.
+pub fn rows(sheet: &Sheet) -> usize {
+    with_gears::Scene::of(sheet).rows()
+}
