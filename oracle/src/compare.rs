@@ -8,6 +8,8 @@ use crate::rng::Rng;
 use crate::sheet::{self, GROUND, Sheet};
 use crate::{generate, port, whole, with_max01};
 use arcs::rule;
+use std::io::Write;
+use std::process::{Command, ExitStatus, Stdio};
 
 /// Every case of a seed: N valid sheets with calls that are accepted, some with calls near their limits too, and N damaged ones;
 /// then every field changed by itself, and sheets at the limits. `ask` gives the Rust's answer; what was met is counted.
@@ -48,11 +50,7 @@ fn cases(seed: u64, n: usize, mut ask: impl FnMut(&[u8], Call) -> Result<Answer,
     for base in generate::field_bases() {
         let sheet = crate::lists::record_words(&base.bytes());
         for (at, word) in generate::field_faults(&sheet) {
-            let with = |word: u64| -> Vec<u8> {
-                let mut changed = sheet.clone();
-                changed[at] = word;
-                changed.iter().flat_map(|w| w.to_le_bytes()).collect()
-            };
+            let with = |word: u64| crate::lists::with_word(&sheet, at, word);
             let bytes = with(word);
             for call in generate::calls_on_one() {
                 let answer = ask(&bytes, call);
@@ -94,7 +92,7 @@ pub fn max_and_cover(seed: u64, n: usize) -> bool {
 pub struct Tally {
     what: &'static str,
     compared: u64,
-    differ: u64,
+    pub differ: u64,
 }
 
 impl Tally {
@@ -224,20 +222,24 @@ pub fn limits(files: &[&str]) -> bool {
     library.done() & cover.done()
 }
 
+/// What a program prints for an input, and how it ends.
+pub fn run_report(program: &str, input: &[u8]) -> (Vec<u8>, ExitStatus) {
+    let mut child = Command::new(program).stdin(Stdio::piped()).stdout(Stdio::piped()).spawn().expect("cannot run report");
+    child.stdin.take().unwrap().write_all(input).ok();
+    let out = child.wait_with_output().unwrap();
+    (out.stdout, out.status)
+}
+
 /// The program `report` against the Rust.
 pub fn report(program: &str, seed: u64, n: usize) -> bool {
-    use std::io::Write;
-    use std::process::{Command, Stdio};
     let (mut tally, mut cover) = (Tally::new("report"), Cover::default());
     cover.want_report();
     let mut run = |input: &[u8]| {
-        let mut child = Command::new(program).stdin(Stdio::piped()).stdout(Stdio::piped()).spawn().expect("cannot run report");
-        child.stdin.take().unwrap().write_all(input).ok();
-        let out = child.wait_with_output().unwrap();
+        let (given, status) = run_report(program, input);
         let want = whole::report(input);
         let name = format!("report-{}", tally.differ);
-        tally.case(out.status.success() && out.stdout == want.as_bytes(), || {
-            format!("{}, {}, expected\n{want}given\n{}", kept(&name, input), out.status, String::from_utf8_lossy(&out.stdout))
+        tally.case(status.success() && given == want.as_bytes(), || {
+            format!("{}, {status}, expected\n{want}given\n{}", kept(&name, input), String::from_utf8_lossy(&given))
         });
         cover.report(input, &want);
     };

@@ -21,12 +21,9 @@ fn slices(sheet: &Sheet, call: Call) -> Vec<(&'static str, usize, usize, u32)> {
     match call {
         Call::Judge { .. } | Call::Reading { .. } => vec![],
         Call::Snap { motion, .. } => vec![("motion", motion, 12, 10)],
-        Call::Solve { scratch, poses, frames, errors, .. } => vec![
-            ("scratch", scratch, solve, 9),
-            ("poses", poses, 12 * m, 10),
-            ("frames", frames, 12 * m, 10),
-            ("errors", errors, k, 10),
-        ],
+        Call::Solve { scratch, poses, frames, errors, .. } => {
+            vec![("scratch", scratch, solve, 9), ("poses", poses, 12 * m, 10), ("frames", frames, 12 * m, 10), ("errors", errors, k, 10)]
+        }
         Call::Dof { scratch, freedoms } => vec![("scratch", scratch, dof, 9), ("freedoms", freedoms, 29 * m, 10)],
     }
 }

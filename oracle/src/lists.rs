@@ -247,6 +247,12 @@ fn eigen_lists(dir: &str, rng: &mut Rng, scale: usize) {
 pub fn record_words(bytes: &[u8]) -> Vec<u64> {
     bytes.chunks(8).map(|c| c.iter().rev().fold(0, |w, b| w << 8 | *b as u64)).collect()
 }
+/// The bytes of these words with one of them changed.
+pub fn with_word(words: &[u64], at: usize, word: u64) -> Vec<u8> {
+    let mut changed = words.to_vec();
+    changed[at] = word;
+    changed.iter().flat_map(|w| w.to_le_bytes()).collect()
+}
 fn relation_words(r: &Relation) -> Vec<u64> {
     let mut bytes = Vec::new();
     r.write(&mut bytes);
@@ -402,9 +408,7 @@ fn sheet_lists(dir: &str, rng: &mut Rng, scale: usize) {
         let sheet = record.clone();
         record.push(faults.len() as u64);
         for (at, word) in faults {
-            let mut changed = sheet.clone();
-            changed[at] = word;
-            let bytes: Vec<u8> = changed.iter().flat_map(|w| w.to_le_bytes()).collect();
+            let bytes = with_word(&sheet, at, word);
             record.extend([at as u64, word, words(&whole::answer(&bytes, Call::Judge { relation: 0 }))[0]]);
         }
         fields.put_words(&record);

@@ -8,11 +8,13 @@ mod compare;
 mod cover;
 mod edges;
 mod examples;
+mod gears;
 mod generate;
 mod lists;
 mod port;
 mod rng;
 mod sheet;
+mod trains;
 mod whole;
 
 /// The calls as tenon answers them.
@@ -55,6 +57,7 @@ oracle bench FILE..           time of the linked `solve` and `dof` on these shee
 oracle sheet SEED N           the linked sheet library against the Rust on N valid and N damaged sheets
 oracle limits FILE..          the same at the limits of bodies, relations and rows, and on the sheets in these files
 oracle run-report PROGRAM SEED N    the program report against the Rust
+oracle gears SEED N [PROGRAM] the sheet library, and the program report, on gears: 8N rows, N valid and N damaged sheets
 oracle lists DIR [SCALE]      the frozen lists (FORMATS.md); SCALE above 1 makes longer ones";
 
 fn main() {
@@ -76,6 +79,8 @@ fn main() {
         ["sheet", seed, n] => compare::sheet(number(seed) as u64, number(n)),
         ["limits", ref files @ ..] => compare::limits(files),
         ["run-report", program, seed, n] => compare::report(program, number(seed) as u64, number(n)),
+        ["gears", seed, n] => gears::run(number(seed) as u64, number(n), None),
+        ["gears", seed, n, program] => gears::run(number(seed) as u64, number(n), Some(program)),
         ["bench"] => bench::run(),
         ["bench", ref files @ ..] => bench::sheets(files),
         ["examples"] => examples::run(),
