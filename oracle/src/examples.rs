@@ -1,9 +1,11 @@
-//! Document 01's own examples, asked of the oracle: the table of refusals, report's text, the marked cases.
+//! Document 01's own examples, asked of the oracle: the table of refusals, report's text, the marked cases; and a gear's, by request 1/14.
 
 use crate::answer::{Answer, Call};
 use crate::generate;
-use crate::plain::{answer, body_of, report};
+use crate::plain::body_of;
 use crate::sheet::*;
+use crate::trains::{pose_of, worked};
+use crate::whole::{answer, report};
 use tenon::{lm, solve};
 
 fn check(failed: &mut u32, what: &str, good: bool) {
@@ -82,6 +84,55 @@ pub fn run() -> bool {
     holds("unnamed free body", matches!(freedom, Ok(Answer::Dof { free: 6, .. })));
     holds("800 rows", converged(&named("800 rows")));
     holds("801 rows", !converged(&named("801 rows")));
-    println!("document 01's examples: {count}, {failed} do not hold");
+    gears(&example.bodies[0], &mut holds);
+    println!("document 01's and request 1/14's examples: {count}, {failed} do not hold");
     failed == 0
+}
+
+/// Gears of 12 and 30 teeth, whose wheels are fixed bodies, a turned by a quarter, and whose carrier is the ground.
+fn gears(world: &Body, holds: &mut impl FnMut(&str, bool)) {
+    let mut wheels = Sheet { bodies: vec![Body { fixed: 1, ..*world }; 2], relations: vec![] };
+    wheels.bodies[0].frame = [[0.0; 3], [0.0, 1.0, 0.0], [-1.0, 0.0, 0.0], [0.0, 0.0, 1.0]];
+    let end = |body: u16| End { prim: LINE, body, direction: [0.0, 0.0, 1.0], ..End::default() };
+    let gear = Relation { law: GEAR, teeth: [12, 30], ends: [end(0), end(1), end(GROUND)], ..Relation::default() };
+    let with = |change: &dyn Fn(&mut Relation)| {
+        let mut r = gear;
+        change(&mut r);
+        Sheet { relations: vec![r], ..wheels.clone() }
+    };
+    let judge = Call::Judge { relation: 0 };
+    let refused = |bytes: &[u8], number: u32| answer(bytes, judge) == Err(number);
+    let solve = Call::Solve { drag: GROUND, scratch: 1000, poses: 24, frames: 24, errors: 1 };
+    let error = |s: &Sheet| if let Ok(Answer::Solve { errors, .. }) = answer(&s.bytes(), solve) { errors[0] } else { f64::NAN };
+    let row = |s: &Sheet| worked(&s.relations[0], &[0, 1].map(|i| pose_of(&s.bodies[i]))).row;
+    let of_teeth = |teeth: [u16; 2]| with(&|r| r.teeth = teeth).bytes();
+    for teeth in [[0, 30], [12, 0], [401, 30], [12, 401], [12, 65535]] {
+        holds("14", refused(&of_teeth(teeth), 14));
+        holds("report refused 14", report(&of_teeth(teeth)) == "refused 14\n");
+    }
+    for teeth in [[1, 1], [400, 400]] {
+        holds("1 to 400 teeth", answer(&of_teeth(teeth), judge) == Ok(Answer::Judge));
+    }
+    let no_teeth_no_body = |flag: u8| with(&|r| (r.teeth[0], r.ends[0].body, r.flag) = (0, 2, flag)).bytes();
+    holds("14 before 6", refused(&no_teeth_no_body(0), 14));
+    holds("5 before 14", refused(&no_teeth_no_body(1), 5));
+    holds("no carrier", refused(&with(&|r| r.ends[2].body = 2).bytes(), 6));
+    holds("law 8", refused(&with(&|r| r.law = 8).bytes(), 5));
+    holds("teeth of another law", refused(&with(&|r| r.law = MATE).bytes(), 5));
+    let unused: [fn(&mut Relation); 4] = [|r| r.joint = 1, |r| r.offset = 1.0, |r| r.reference[2] = 1.0, |r| r.ends[2].radius = 1.0];
+    for change in unused {
+        holds("unused by a gear", refused(&with(&change).bytes(), 5));
+    }
+    // 12 quarters less as much; half a turn from either side; a quarter and half a turn, which is a quarter back.
+    let (pi, quarter) = (std::f64::consts::PI, std::f64::consts::FRAC_PI_2);
+    holds("a row of 0", error(&with(&|r| r.angle = 12.0 * quarter)) == 0.0);
+    holds("a row of half a turn", [pi, -pi].iter().all(|by| row(&with(&|r| (r.teeth, r.angle) = ([4, 1], 4.0 * quarter + by))) == pi));
+    let back = with(&|r| (r.teeth, r.angle) = ([1, 30], -pi));
+    holds("the whole difference is wrapped", (row(&back) + quarter).abs() < 1e-15 && error(&back) == row(&back).abs());
+    let mirrored = |i: usize| row(&with(&|r| (r.ends[i].prim, r.ends[i].direction, r.ends[i].mirrored, r.teeth) = (POINT, [0.0; 3], 1, [1, 1])));
+    holds("a mirrored wheel turns alike, a mirrored carrier the other way", [0, 1, 2].map(mirrored) == [quarter, quarter, -quarter]);
+    holds("snapping leaves the wheel", {
+        let motion = [[1.0, 0.0, 0.0, 0.0], [1.0, 0.0, 0.0, 0.0], [1.0, 0.0, 0.0, 0.0]].concat();
+        answer(&with(&|_| ()).bytes(), Call::Snap { relation: 0, motion: 12 }) == Ok(Answer::Snap { motion })
+    });
 }
