@@ -1,12 +1,14 @@
-//! The frozen lists: answers of the Rust as data, for programs that run without it. FORMATS.md describes them.
+//! The frozen lists: answers of the Rust and of the second program as data, for programs that run without it. FORMATS.md describes them.
 
 use crate::answer::{Call, bits, words};
 use crate::arguments as args;
 use crate::cover::Cover;
+use crate::gears;
 use crate::generate;
 use crate::plain::{self, list, vec3};
 use crate::rng::Rng;
 use crate::sheet::{Body, Relation, Sheet};
+use crate::trains;
 use crate::whole;
 use std::sync::atomic::Ordering;
 use tenon::math::{M3, frame_of, rotation_between, span_basis, sym_eigen};
@@ -314,8 +316,10 @@ fn solver_lists(dir: &str, rng: &mut Rng, scale: usize) {
         answer.resize(7, 0.0);
         rows.put_words(&[relation_words(&r), all_bits(&[poses.as_flattened()]), vec![count], all_bits(&[&answer, &[most]])].concat());
     }
-    for i in 0..generate::kind_count() * scale {
-        let (r, bodies) = generate::single(rng, i);
+    let mut gears = Rng(8);
+    let kinds = generate::kind_count() * scale;
+    for i in 0..kinds + 128 * scale {
+        let (r, bodies) = if i < kinds { generate::single(rng, i) } else { trains::single(&mut gears, i - kinds) };
         let mut sheet_bytes = Vec::new();
         bodies.iter().for_each(|b| b.write(&mut sheet_bytes));
         let bytes = Sheet { bodies: bodies.to_vec(), relations: vec![r] }.bytes();
@@ -326,6 +330,19 @@ fn solver_lists(dir: &str, rng: &mut Rng, scale: usize) {
     }
     rows.write(dir, "rows");
     calls.write(dir, "relation_calls");
+}
+
+/// Rows of gears by the second program.
+fn gear_rows(dir: &str, rng: &mut Rng, scale: usize) {
+    let mut rows = List::new();
+    for i in 0..1536 * scale {
+        let (r, bodies) = trains::single(rng, i);
+        let poses = bodies.map(|b| if i % 4 == 3 { pose(rng, &b) } else { trains::pose_of(&b) });
+        let row = trains::worked(&r, &poses).row;
+        let answer = [row, 0.0, 0.0, 0.0, 0.0, 0.0, 0.0, lm::max_abs(&[row])];
+        rows.put_words(&[relation_words(&r), all_bits(&[poses.as_flattened()]), vec![1], all_bits(&[&answer])].concat());
+    }
+    rows.write(dir, "gear_rows");
 }
 
 /// A body's pose, sometimes far off and with turning entries that are no rotation's.
@@ -402,9 +419,9 @@ fn sheet_lists(dir: &str, rng: &mut Rng, scale: usize) {
     }
     refused.write(dir, "sheets_refused");
     let mut fields = List::new();
-    for base in generate::field_bases() {
+    let changes = |base: Sheet| (base.clone(), generate::field_faults(&record_words(&base.bytes())));
+    for (base, faults) in generate::field_bases().into_iter().map(changes).chain(trains::changes()) {
         let mut record = record_words(&base.bytes());
-        let faults = generate::field_faults(&record);
         let sheet = record.clone();
         record.push(faults.len() as u64);
         for (at, word) in faults {
@@ -424,6 +441,40 @@ fn sheet_lists(dir: &str, rng: &mut Rng, scale: usize) {
     limits.write(dir, "sheets_limits");
 }
 
+/// Sheets with gears: valid ones, each kept for something that none before it reaches, and every eleventh; faults in one gear and in two;
+/// damaged ones.
+fn geared_sheets(dir: &str, rng: &mut Rng, scale: usize) {
+    let (mut geared, mut cover) = (List::new(), Cover::default());
+    let branches = || tenon_gear::COVER.iter().map(|c| c.load(Ordering::Relaxed) > 0).collect::<Vec<_>>();
+    for i in 0..480 * scale {
+        let sheet = trains::sheet(rng, i);
+        let calls = generate::good_calls(rng, &sheet);
+        let solved = [calls[calls.len() - 2], calls[calls.len() - 1]];
+        let before = (cover.reached(), branches());
+        let bytes = sheet.bytes();
+        for call in solved {
+            let _ = gears::count(&mut cover, &sheet, call, || whole::answer(&bytes, call));
+        }
+        let fresh = (cover.reached(), branches()) != before;
+        if fresh || i % 11 == 10 || scale > 1 {
+            geared.put_words(&sheet_words(&bytes, &solved));
+        }
+    }
+    for (_, sheet) in trains::orders() {
+        geared.put_words(&sheet_words(&sheet.bytes(), &generate::calls_on_one()));
+    }
+    for i in 0..24 {
+        let sheet = trains::sheet(rng, i);
+        let bytes = trains::damaged(rng, &sheet);
+        let read = crate::sheet::read(&bytes);
+        if bytes.len() <= 2000 {
+            let calls = generate::calls(rng, read.as_ref().ok());
+            geared.put_words(&sheet_words(&bytes, &calls));
+        }
+    }
+    geared.write(dir, "sheets_geared");
+}
+
 /// Which branches of the Rust have been taken since the last `forget`.
 fn taken() -> Vec<bool> {
     tenon::COVER.iter().map(|c| c.load(Ordering::Relaxed) > 0).collect()
@@ -441,6 +492,8 @@ pub fn write(dir: &str, scale: usize) -> bool {
     let by_functions = taken();
     forget();
     sheet_lists(dir, &mut Rng(5), scale);
+    gear_rows(dir, &mut Rng(9), scale);
+    geared_sheets(dir, &mut Rng(10), scale);
     let count = |taken: &[bool]| taken.iter().filter(|t| **t).count();
     println!("branches of the Rust: {}, taken for single functions {}, for sheets {}", tenon::NAMES.len(), count(&by_functions), count(&taken()));
     for ((name, function), sheet) in tenon::NAMES.iter().zip(by_functions).zip(taken()) {
