@@ -187,7 +187,7 @@ def list_of_rows(path):
 
 
 def list_of_sheets(path):
-    """The list `sheets_solved`: reported errors against exact rows at the poses filled in."""
+    """A list of solved sheets: reported errors against exact rows at the poses filled in. Gears are left out, what stands beside them is not."""
     data, seen, at = path.read_bytes(), Seen(), 8
 
     def word():
@@ -213,7 +213,7 @@ def list_of_sheets(path):
                 rel = read_relation(sheet[start:start + 264])
                 if rows(rel, poses) is not None and bounded(rel, poses):
                     seen.take(rel, poses, doubles[24 * m + i])
-    return seen.report("errors of solved sheets")
+    return seen.report(f"errors of {path.stem}")
 
 
 # Inputs by chance and by climbing.
@@ -289,5 +289,6 @@ def tries(seed, n):
 
 if __name__ == "__main__":
     lists, seed, n = pathlib.Path(sys.argv[1]), int(sys.argv[2]), int(sys.argv[3])
-    good = list_of_rows(lists / "rows.bin") & list_of_sheets(lists / "sheets_solved.bin") & tries(seed, n)
+    sheets = [list_of_sheets(lists / name) for name in ("sheets_solved.bin", "sheets_geared.bin")]
+    good = list_of_rows(lists / "rows.bin") & all(sheets) & tries(seed, n)
     sys.exit(0 if good else 1)
