@@ -11,11 +11,12 @@ use lib.ListN.{length, getD}
 use lib.Dec.{T, eqb, leb}
 use lib.Ieee.{Float, nan, inf, fin, binary64, isNan, lt, eq, le, ofBits, toBits}
 use lib.Ieee.Bits.{toBits-ofBits}
-use borrow.Author.Tests.{leb-true, eqb-true, eq-eqb}
+use borrow.Author.Tests.{leb-true, eqb-true}
 use Rattle.numbers.specs.Double.{abs}
 use Rattle.vectors.specs.Vec.{Vec}
+use Rattle.relations.specs.Model.{gear}
 use Rattle.relations.specs.declared.model.JointKind.the-variants.{Ball}
-use Rattle.records.specs.Numbers.{SYMMETRY, GEAR, CIRCLE, lawNumber, jointNumber, primNumber, flagNumber, bodyRefNumber}
+use Rattle.records.specs.Numbers.{GEAR, CIRCLE, lawNumber, jointNumber, primNumber, flagNumber, bodyRefNumber}
 use Rattle.records.specs.Record.{byteAt, u16At, u64At, doubleAt, vecAt, usesJoint, usesMirrored, usesFlag, usesThird, bodyNumberAt, primAt, bodyAt, endAt, lawBy, relAt}
 use Rattle.records.specs.Limits.{within, withinV, THOUSAND, UNIT-LIMIT}
 use Rattle.records.proofs.NumberLaws.{each-case, case-of}
@@ -120,14 +121,11 @@ law-back : (n : ℕ) (s : List ℕ) (r : ℕ) → n ≤ GEAR → byteAt s (r + 1
 unfolding lawBy
 law-back n s r h j f off want v third =
     let flag = flag-back (byteAt s (r + 2)) f in
+    let kind = kind-number (byteAt s (r + 1)) j in
+    let last : (n ≡ GEAR → LawBack s r (gear (u16At s (r + 4)) (u16At s (r + 6)) (doubleAt s (r + 16)) (endAt s (r + 192)))) =
+    λ q. (refl, (refl, (want, third (rw q)))) in
     case-of lawNumber (λ l. LawBack s r l) n 0 _ _ (refl, (refl, (refl, (refl, (refl, (refl, (refl, refl))))))) (omega arith) h
-    ((λ q. off),
-    ((λ q. off),
-    ((λ q. (want, v)),
-    ((λ q. (off, flag)),
-    ((λ q. (off, flag)),
-    ((λ q. third (rw q)),
-    ((λ q. (kind-number (byteAt s (r + 1)) j, (flag, (off, want)))), (λ q. (refl, (refl, (want, third (rw q))))))))))))
+    ((λ q. off), ((λ q. off), ((λ q. (want, v)), ((λ q. (off, flag)), ((λ q. (off, flag)), ((λ q. third (rw q)), ((λ q. (kind, (flag, (off, want)))), last)))))))
 
 third-used : (law : ℕ) (s : List ℕ) (e : ℕ) → thirdShape law s e ≡ true → usesThird law ≡ true → endShape law s e ≡ true
 unfolding thirdShape

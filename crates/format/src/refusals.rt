@@ -232,7 +232,8 @@ fn rel_shape(s: &[u8], r: usize) -> bool
     let b = end_shape(law, s, r + 120);
     let third = third_shape(law, s, r + 192);
     (law <= 7)
-        & (joint & (flag & (zeros & (teeth & (offset & (angle & (reference & (a & (b & third)))))))))
+        & (joint
+            & (flag & (zeros & (teeth & (offset & (angle & (reference & (a & (b & third)))))))))
 }
 
 // A wheel's teeth, 1 to 400.
