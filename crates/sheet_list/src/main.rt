@@ -1,4 +1,5 @@
-// Replays the Rust's answers to the five calls, refusals included, and prints how many answers each list holds and how many of them differ here.
+// Replays the Rust's answers to the five calls, refusals included, and those of the Rust with a second program's gears put in, and prints how many answers each list holds
+// and how many of them differ here.
 // All bits are compared; all NaNs are the same. data/ has the lists, whose formats oracle/FORMATS.md gives.
 mod lent;
 mod solving;
@@ -243,6 +244,7 @@ fn replay_all(scratch: &mut [f64; 300_000]) {
     replay(b"relation_calls.bin", List::Relations, scratch);
     replay(b"sheets_solved.bin", List::Sheets, scratch);
     replay(b"sheets_limits.bin", List::Sheets, scratch);
+    replay(b"sheets_geared.bin", List::Sheets, scratch);
 }
 
 fn main() {
