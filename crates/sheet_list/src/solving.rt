@@ -100,6 +100,16 @@ pub fn solve_right(fd: i32, s: &[u8], scratch: &mut [f64], c: Call) -> bool {
     solve_lent(fd, s, scratch, &mut poses, &mut frames, &mut errors, c)
 }
 
+// Whether a number and the outputs are the list's answer to `dof`.
+fn freedoms_right(fd: i32, s: &[u8], number: u32, want: u64, freedoms: &[f64], free: u32) -> bool {
+    if number as u64 != want {
+        return false;
+    }
+    let total = if number == 0 { word(fd) } else { 777 };
+    let m = count(s, 2, number);
+    holds(fd, freedoms, 29 * m) & (free as u64 == total)
+}
+
 fn dof_lent(fd: i32, s: &[u8], scratch: &mut [f64], freedoms: &mut [f64], c: Call) -> bool {
     if c.scratch > scratch.len() as u64 || c.first > freedoms.len() as u64 {
         return false;
@@ -108,12 +118,7 @@ fn dof_lent(fd: i32, s: &[u8], scratch: &mut [f64], freedoms: &mut [f64], c: Cal
     let f = c.first as usize;
     let mut free = 777u32;
     let number = sheet_dof(s, &mut scratch[0..n], &mut freedoms[0..f], &mut free);
-    if number as u64 != c.want {
-        return false;
-    }
-    let total = if number == 0 { word(fd) } else { 777 };
-    let m = count(s, 2, number);
-    holds(fd, freedoms, 29 * m) & (free as u64 == total)
+    freedoms_right(fd, s, number, c.want, freedoms, free)
 }
 
 pub fn dof_right(fd: i32, s: &[u8], scratch: &mut [f64], c: Call) -> bool {
