@@ -5,7 +5,7 @@
 # have, are compared with the second program's rows (src/gear.rs), put into a copy of tenon. Every comparison prints how much it
 # compared. Ends with 0 if nothing differs and every kind of case that is wanted was met.
 # Where tenon's sources or rustc are missing it says that nothing was compared, and ends with 0, or with 1 if CI is set.
-# Takes 60 to 110 s on two cores, by what else they do.
+# Takes 60 to 130 s on two cores, by what else they do.
 set -u
 cd "$(dirname "$0")" || exit 2
 failed=0
