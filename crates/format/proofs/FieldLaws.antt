@@ -1,15 +1,13 @@
 -- Reading gives every field's bits back: of a sheet that passes tests 1 to 7 and 14, each body and relation gives back the bytes that it uses. Test 5 puts every byte within its
 -- table, and test 7 leaves no NaN, the one double whose bits are not kept. Assumes nothing.
-use mathlib.Core.Path.{_≡_, refl, sym, _∙_}
-use mathlib.Core.Bool.{Bool, true, false, _&&_, cond}
+use mathlib.Core.Path.{_≡_, refl, sym}
+use mathlib.Core.Bool.{Bool, true, false, cond}
 use mathlib.Core.List.{List}
-use mathlib.Core.Logic.{⊎-elim}
-use Prim.Native.Nat.{ℕ, zero, suc, _+_, _*_, _<_, _≤_}
-use native.Mathlib.Nat.{add-assoc, eq-or-lt-of-le, le-of-suc-le-suc}
+use Prim.Native.Nat.{ℕ, zero, suc, _+_, _<_, _≤_}
+use native.Mathlib.Nat.{add-assoc}
 use native.Mathlib.Omega.{arith}
-use lib.ListN.{length, getD}
-use lib.Dec.{T, eqb, leb}
-use lib.Ieee.{Float, nan, inf, fin, binary64, isNan, lt, eq, le, ofBits, toBits}
+use lib.Dec.{eqb}
+use lib.Ieee.{Float, nan, inf, fin, binary64, isNan, lt, eq, le, ofBits}
 use lib.Ieee.Bits.{toBits-ofBits}
 use borrow.Author.Tests.{leb-true, eqb-true}
 use Rattle.numbers.specs.Double.{abs}
@@ -22,8 +20,8 @@ use Rattle.records.specs.Limits.{within, withinV, THOUSAND, UNIT-LIMIT}
 use Rattle.records.proofs.NumberLaws.{each-case, case-of}
 use Rattle.records.proofs.RecordLaws.{prim-number, kind-number, law-number}
 use Rattle.format.specs.Format.{bodiesOf, relationsOf, bodyStart, relStart}
-use Rattle.format.specs.Faults.{orElse, byteUpTo, bodyShape, bodyLimits, endShape, endLimits, thirdShape, relShape, relTeeth, relNames, relLimits, bodyFault, relFault, headerFault, bodiesFault, relsFault, sheetFault}
-use Rattle.format.proofs.RefusalLaws.{none-of, and-left, and-right}
+use Rattle.format.specs.Faults.{orElse, byteUpTo, bodyShape, bodyLimits, endShape, endLimits, thirdShape, relShape, relLimits, bodyFault, relFault, headerFault, bodiesFault, relsFault, sheetFault}
+use Rattle.format.proofs.RefusalLaws.{none-of, and-left, and-right, each-body, each-rel, rel-tests}
 use Rattle.format.specs.Fields.{DoubleBack, VecBack, BodyBack, PrimBack, EndBack, LawBack, RelBack}
 
 -- every element is a byte
@@ -147,32 +145,10 @@ rel-of s r b shape limits =
       b = end-back law s (r + 120) b (search (and-left, and-right) depth 12) (search (and-left, and-right) depth 12);
     }
 
-four : (a t n l : Bool) → _≡_ {A = ℕ} (cond a (cond t (cond n (cond l 0 7) 6) 14) 5) 0 → (a ≡ true) × (l ≡ true)
-four true true true true h = (refl, refl)
-four true true true false h = absurd (let z : _≡_ {A = ℕ} 7 0 = h in omega arith)
-four true true false l h = absurd (let z : _≡_ {A = ℕ} 6 0 = h in omega arith)
-four true false n l h = absurd (let z : _≡_ {A = ℕ} 14 0 = h in omega arith)
-four false t n l h = absurd (let z : _≡_ {A = ℕ} 5 0 = h in omega arith)
-
 rel-back : (m : ℕ) (s : List ℕ) (r : ℕ) → Bytes s → relFault m s r ≡ 0 → RelBack s r (relAt s r)
-unfolding relFault
-rel-back m s r b h = let p = four (relShape s r) (relTeeth s r) (relNames m s r) (relLimits s r) h in rel-of s r b (p .0) (p .1)
+rel-back m s r b h = let p = rel-tests m s r h in rel-of s r b (p .0) (p .1)
 
 -- ---- the sheet
-
-each-body : (s : List ℕ) (m i : ℕ) → bodiesFault s m ≡ 0 → i < m → bodyFault s (bodyStart i) ≡ 0
-unfolding bodiesFault
-each-body s zero i h l = absurd (omega arith)
-each-body s (suc m) i h l =
-    let p = none-of (bodiesFault s m) (bodyFault s (bodyStart m)) h in
-    ⊎-elim (λ (e : i ≡ m). rw e (p .1)) (λ (k : i < m). each-body s m i (p .0) k) (eq-or-lt-of-le (le-of-suc-le-suc l))
-
-each-rel : (s : List ℕ) (k j : ℕ) → relsFault s k ≡ 0 → j < k → relFault (bodiesOf s) s (relStart (bodiesOf s) j) ≡ 0
-unfolding relsFault
-each-rel s zero j h l = absurd (omega arith)
-each-rel s (suc k) j h l =
-    let p = none-of (relsFault s k) (relFault (bodiesOf s) s (relStart (bodiesOf s) k)) h in
-    ⊎-elim (λ (e : j ≡ k). rw e (p .1)) (λ (i : j < k). each-rel s k j (p .0) i) (eq-or-lt-of-le (le-of-suc-le-suc l))
 
 -- of a sheet that passes tests 1 to 7 and 14, every body gives its fields back, and every relation
 pub bodies-back : (s : List ℕ) → Bytes s → sheetFault s ≡ 0 → (i : ℕ) → i < bodiesOf s → BodyBack s (bodyStart i) (bodyAt s (bodyStart i))

@@ -1,8 +1,10 @@
--- The tests taken one more record at a time, and what a header that passes says of the sheet's length. Assumes nothing.
+-- The tests taken one more record at a time, what no fault says of each record, and what a header that passes says of the sheet's length. Assumes nothing.
 use mathlib.Core.Path.{_≡_, refl, sym, _∙_}
 use mathlib.Core.Bool.{Bool, true, false, _&&_, cond}
 use mathlib.Core.List.{List}
-use Prim.Native.Nat.{ℕ, zero, suc, _+_, _*_, _≤_}
+use mathlib.Core.Logic.{⊎-elim}
+use Prim.Native.Nat.{ℕ, zero, suc, _+_, _*_, _≤_, _<_}
+use native.Mathlib.Nat.{eq-or-lt-of-le, le-of-suc-le-suc}
 use native.Mathlib.Numerals.{add-one}
 use native.Mathlib.Omega.{arith}
 use lib.ListN.{length}
@@ -10,7 +12,7 @@ use lib.Dec.{eqb, leb}
 use borrow.Author.Tests.{leb-true, eqb-true}
 use Rattle.records.specs.Record.{byteAt, u16At, zeroBytes}
 use Rattle.format.specs.Format.{bodiesOf, relationsOf, bodyStart, relStart}
-use Rattle.format.specs.Faults.{orElse, headerFault, headerZeros, headerCounts, headerOffsets, bodyFault, relFault, bodiesFault, relsFault, sheetFault}
+use Rattle.format.specs.Faults.{orElse, headerFault, headerZeros, headerCounts, headerOffsets, bodyFault, relShape, relTeeth, relNames, relLimits, relFault, bodiesFault, relsFault, sheetFault}
 
 -- ---- one more
 
@@ -35,6 +37,33 @@ or-else-first (suc a) b h = refl
 pub none-of : (a b : ℕ) → orElse a b ≡ 0 → (a ≡ 0) × (b ≡ 0)
 none-of zero b h = (refl, h)
 none-of (suc a) b h = absurd (omega arith)
+
+-- ---- no fault at all: none of any record, and all tests of a relation pass
+
+pub each-body : (s : List ℕ) (m i : ℕ) → bodiesFault s m ≡ 0 → i < m → bodyFault s (bodyStart i) ≡ 0
+unfolding bodiesFault
+each-body s zero i h l = absurd (omega arith)
+each-body s (suc m) i h l =
+    let p = none-of (bodiesFault s m) (bodyFault s (bodyStart m)) h in
+    ⊎-elim (λ (e : i ≡ m). rw e (p .1)) (λ (k : i < m). each-body s m i (p .0) k) (eq-or-lt-of-le (le-of-suc-le-suc l))
+
+pub each-rel : (s : List ℕ) (k j : ℕ) → relsFault s k ≡ 0 → j < k → relFault (bodiesOf s) s (relStart (bodiesOf s) j) ≡ 0
+unfolding relsFault
+each-rel s zero j h l = absurd (omega arith)
+each-rel s (suc k) j h l =
+    let p = none-of (relsFault s k) (relFault (bodiesOf s) s (relStart (bodiesOf s) k)) h in
+    ⊎-elim (λ (e : j ≡ k). rw e (p .1)) (λ (i : j < k). each-rel s k j (p .0) i) (eq-or-lt-of-le (le-of-suc-le-suc l))
+
+four : (a t n l : Bool) → _≡_ {A = ℕ} (cond a (cond t (cond n (cond l 0 7) 6) 14) 5) 0 → (a ≡ true) × (l ≡ true)
+four true true true true h = (refl, refl)
+four true true true false h = absurd (let z : _≡_ {A = ℕ} 7 0 = h in omega arith)
+four true true false l h = absurd (let z : _≡_ {A = ℕ} 6 0 = h in omega arith)
+four true false n l h = absurd (let z : _≡_ {A = ℕ} 14 0 = h in omega arith)
+four false t n l h = absurd (let z : _≡_ {A = ℕ} 5 0 = h in omega arith)
+
+pub rel-tests : (m : ℕ) (s : List ℕ) (r : ℕ) → relFault m s r ≡ 0 → (relShape s r ≡ true) × (relLimits s r ≡ true)
+unfolding relFault
+rel-tests m s r h = four (relShape s r) (relTeeth s r) (relNames m s r) (relLimits s r) h
 
 -- ---- two tests joined
 

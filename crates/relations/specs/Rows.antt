@@ -297,7 +297,7 @@ carrierAt e q =
     let f = jointFrame (e .prim) (e .mirrored) in
     record { x = apply doubles (q .r) (f .x); y = apply doubles (q .r) (f .y) }
 
--- θ of a wheel, how far it is turned in its carrier: the angle at which the wheel's joint X stands between the carrier's X and Y
+-- θ of a wheel, how far it is turned in its carrier: the angle from the carrier's X to the wheel's joint X, towards the carrier's Y
 unfoldable pub wheelTurn : JointAt → CarrierAt → Float
 wheelTurn w c = arctangent (dot doubles (w .x) (c .y)) (dot doubles (w .x) (c .x))
 

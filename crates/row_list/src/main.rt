@@ -1,6 +1,6 @@
 // Replays the Rust's rows (each relation's count, seven rows and largest magnitude, at poses squared and not), wrapped angles and gaps of tangents, and the rows of gears
-// that a second program works, one list after another, and prints how many answers each list holds and how many of them differ here. All bits are compared; all NaNs are the same. data/ has the lists, whose formats
-// oracle/FORMATS.md gives.
+// that a second program works, one list after another, and prints how many answers each list holds and how many of them differ here. All bits are compared; all NaNs
+// are the same. data/ has the lists, whose formats oracle/FORMATS.md gives.
 
 use lists::answers::counted;
 use lists::answers::same;

@@ -1,10 +1,8 @@
 -- Every relation of a sheet that passes is within the limits that the row bound asks for: the tests read each double that a relation has, and more. Assumes nothing.
-use mathlib.Core.Path.{_≡_, refl, sym, ap, subst, _∙_}
-use mathlib.Core.Logic.{inl, inr}
-use mathlib.Core.Bool.{Bool, true, false, _&&_, cond}
+use mathlib.Core.Path.{_≡_, sym, ap, subst, _∙_}
+use mathlib.Core.Bool.{Bool, true, false, _&&_}
 use mathlib.Core.List.{List}
-use Prim.Native.Nat.{ℕ, zero, suc, _+_, _*_, _<_}
-use native.Mathlib.Nat.{not-suc-le-zero, le-of-suc-le-suc, eq-or-lt-of-le}
+use Prim.Native.Nat.{ℕ, _+_, _*_, _<_}
 use native.Mathlib.Omega.{arith}
 use lib.ListN.{length, getD}
 use lib.Dec.{T}
@@ -22,8 +20,8 @@ use Rattle.closeness.specs.RowBound.{smallGeo, smallEnd, smallLaw, smallRel}
 use Rattle.least_squares.proofs.TableLaws.{length-listOf, getD-listOf}
 use Rattle.format.specs.Format.{bodiesOf, relationsOf, relStart}
 use Rattle.refusals.specs.SceneAt.{sceneAt}
-use Rattle.format.specs.Faults.{orElse, endLimits, relShape, relTeeth, relNames, relLimits, headerFault, bodiesFault, relFault, relsFault, sheetFault}
-use Rattle.format.proofs.RefusalLaws.{none-of}
+use Rattle.format.specs.Faults.{orElse, endLimits, relLimits, headerFault, bodiesFault, relsFault, sheetFault}
+use Rattle.format.proofs.RefusalLaws.{none-of, each-rel, rel-tests}
 
 -- ---- from the tests to the limits of the row bound
 
@@ -76,31 +74,13 @@ module _ (s : List ℕ) (r : ℕ) where
 
 -- ---- every relation of the sheet
 
-last-test : (a t b c : Bool) → _≡_ {A = ℕ} (cond a (cond t (cond b (cond c 0 7) 6) 14) 5) 0 → c ≡ true
-last-test true true true true h = refl
-last-test true true true false h = absurd (let z : _≡_ {A = ℕ} 7 0 = h in omega arith)
-last-test true true false c h = absurd (let z : _≡_ {A = ℕ} 6 0 = h in omega arith)
-last-test true false b c h = absurd (let z : _≡_ {A = ℕ} 14 0 = h in omega arith)
-last-test false t b c h = absurd (let z : _≡_ {A = ℕ} 5 0 = h in omega arith)
-
-pub rel-passes : (s : List ℕ) (k : ℕ) → relsFault s k ≡ 0 → (j : ℕ) → j < k → relFault (bodiesOf s) s (relStart (bodiesOf s) j) ≡ 0
-unfolding relsFault
-rel-passes s zero h j l = absurd (not-suc-le-zero l)
-rel-passes s (suc k) h j l =
-    let p = none-of (relsFault s k) (relFault (bodiesOf s) s (relStart (bodiesOf s) k)) h in
-    let before = rel-passes s k (p .0) j in
-    elim (eq-or-lt-of-le (le-of-suc-le-suc l)) [
-      | inl e ↦ ap (λ (i : ℕ). relFault (bodiesOf s) s (relStart (bodiesOf s) i)) e ∙ p .1
-      | inr m ↦ before m
-    ]
-
 pub rel-limits : (s : List ℕ) → sheetFault s ≡ 0 → (j : ℕ) → j < relationsOf s → relLimits s (relStart (bodiesOf s) j) ≡ true
-unfolding sheetFault relFault
+unfolding sheetFault
 rel-limits s h j l =
     let p = none-of (headerFault s) (orElse (bodiesFault s (bodiesOf s)) (relsFault s (relationsOf s))) h .1 in
     let q = none-of (bodiesFault s (bodiesOf s)) (relsFault s (relationsOf s)) p .1 in
     let r = relStart (bodiesOf s) j in
-    last-test (relShape s r) (relTeeth s r) (relNames (bodiesOf s) s r) (relLimits s r) (rel-passes s (relationsOf s) q j l)
+    rel-tests (bodiesOf s) s r (each-rel s (relationsOf s) j q l) .1
 
 -- relation j of the scene is the one that the tests read
 pub rel-is : (s : List ℕ) (j : ℕ) (d : Rel) → j < relationsOf s → getD (sceneAt s .rels) j d ≡ relAt s (relStart (bodiesOf s) j)

@@ -1,5 +1,5 @@
 -- `scene::scene::names` meets its contract: the definition is "or" of three tests in the code's order. The first that is true gives true; where two are false, the
--- third is the answer, with the plane's body that `third_body` promises. Assumes nothing.
+-- third is the answer, with the third end's body that `third_body` promises. Assumes nothing.
 use Prim.Native.Nat.{ℕ}
 use mathlib.Core.Option.{Option}
 use mathlib.Core.Path.{sym, ap, _∙_}

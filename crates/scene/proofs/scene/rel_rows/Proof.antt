@@ -1,5 +1,5 @@
--- `scene::scene::rel_rows` meets its contract: the three poses are those that the definition takes for the two ends and symmetry's plane, and put into what `residual`
--- promises they give the relation's rows. Assumes nothing.
+-- `scene::scene::rel_rows` meets its contract: the three poses are those that the definition takes for the two ends and the third, and put into what `residual` promises
+-- they give the relation's rows. Assumes nothing.
 use mathlib.Core.Path.{ap, _∙_}
 use borrow.Author.Needs.{needs}
 use Rattle.scene.specs.Scene.{posesIn}
