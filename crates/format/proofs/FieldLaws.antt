@@ -1,13 +1,13 @@
 -- Reading gives every field's bits back: of a sheet that passes tests 1 to 7 and 14, each body and relation gives back the bytes that it uses. Test 5 puts every byte within its
 -- table, and test 7 leaves no NaN, the one double whose bits are not kept. Assumes nothing.
 use mathlib.Core.Path.{_≡_, refl, sym}
-use mathlib.Core.Bool.{Bool, true, false, cond}
+use mathlib.Core.Bool.{Bool, true, false}
 use mathlib.Core.List.{List}
 use Prim.Native.Nat.{ℕ, zero, suc, _+_, _<_, _≤_}
 use native.Mathlib.Nat.{add-assoc}
 use native.Mathlib.Omega.{arith}
 use lib.Dec.{eqb}
-use lib.Ieee.{Float, nan, inf, fin, binary64, isNan, lt, eq, le, ofBits}
+use lib.Ieee.{Float, nan, inf, fin, binary64, isNan, lt, eq, le}
 use lib.Ieee.Bits.{toBits-ofBits}
 use borrow.Author.Tests.{leb-true, eqb-true}
 use Rattle.numbers.specs.Double.{abs}
@@ -20,8 +20,8 @@ use Rattle.records.specs.Limits.{within, withinV, THOUSAND, UNIT-LIMIT}
 use Rattle.records.proofs.NumberLaws.{each-case, case-of}
 use Rattle.records.proofs.RecordLaws.{prim-number, kind-number, law-number}
 use Rattle.format.specs.Format.{bodiesOf, relationsOf, bodyStart, relStart}
-use Rattle.format.specs.Faults.{orElse, byteUpTo, bodyShape, bodyLimits, endShape, endLimits, thirdShape, relShape, relLimits, bodyFault, relFault, headerFault, bodiesFault, relsFault, sheetFault}
-use Rattle.format.proofs.RefusalLaws.{none-of, and-left, and-right, each-body, each-rel, rel-tests}
+use Rattle.format.specs.Faults.{byteUpTo, bodyShape, bodyLimits, endShape, endLimits, thirdShape, relShape, relLimits, bodyFault, relFault, sheetFault}
+use Rattle.format.proofs.RefusalLaws.{and-left, and-right, faultless, body-tests, rel-tests}
 use Rattle.format.specs.Fields.{DoubleBack, VecBack, BodyBack, PrimBack, EndBack, LawBack, RelBack}
 
 -- every element is a byte
@@ -30,18 +30,23 @@ Bytes s = (i : ℕ) → byteAt s i < 256
 
 -- ---- doubles
 
-number : (limit x : Float) → within limit x ≡ true → isNan x ≡ false
+-- what is within a limit is a number
+pub number : (limit x : Float) → within limit x ≡ true → isNan x ≡ false
 unfolding within abs le lt eq isNan
 number limit nan h = sym h
 number limit (inf s) h = refl
 number limit (fin s m e) h = refl
 
-double-back : (s : List ℕ) (o : ℕ) (limit : Float) → Bytes s → within limit (doubleAt s o) ≡ true → DoubleBack s o (doubleAt s o)
+-- a double that is no NaN gives its bits back
+pub bits-back : (s : List ℕ) (o : ℕ) → Bytes s → isNan (doubleAt s o) ≡ false → DoubleBack s o (doubleAt s o)
 unfolding doubleAt
-double-back s o limit b h =
+bits-back s o b h =
     let in-word : u64At s o < 0x1_0000_0000_0000_0000 =
     omega (arith, b o, b (o + 1), b (o + 2), b (o + 3), b (o + 4), b (o + 5), b (o + 6), b (o + 7)) in
-    toBits-ofBits binary64 (u64At s o) in-word (rw (number limit (ofBits binary64 (u64At s o)) h) tt)
+    toBits-ofBits binary64 (u64At s o) in-word (rw h tt)
+
+double-back : (s : List ℕ) (o : ℕ) (limit : Float) → Bytes s → within limit (doubleAt s o) ≡ true → DoubleBack s o (doubleAt s o)
+double-back s o limit b h = bits-back s o b (number limit (doubleAt s o) h)
 
 vec-back : (s : List ℕ) (o : ℕ) (limit : Float) → Bytes s → withinV limit (vecAt s o) ≡ true → VecBack s o (vecAt s o)
 unfolding withinV
@@ -54,12 +59,12 @@ vec-back s o limit b h =
 
 -- ---- bytes and numbers
 
-up-to : (used : Bool) (most b : ℕ) → byteUpTo used most b ≡ true → b ≤ most
+pub up-to : (used : Bool) (most b : ℕ) → byteUpTo used most b ≡ true → b ≤ most
 unfolding byteUpTo
 up-to true most b h = leb-true b most h
 up-to false most b h = omega (arith, eqb-true b 0 h)
 
-flag-back : (n : ℕ) → n ≤ flagNumber true → flagNumber (eqb n (flagNumber true)) ≡ n
+pub flag-back : (n : ℕ) → n ≤ flagNumber true → flagNumber (eqb n (flagNumber true)) ≡ n
 flag-back zero h = refl
 flag-back (suc zero) h = refl
 flag-back (suc (suc n)) h = absurd (omega arith)
@@ -69,11 +74,6 @@ unfolding bodyNumberAt
 place-back b = each-case bodyRefNumber b (λ p. bodyRefNumber p ≡ b) _ _ ((λ q. sym q), refl)
 
 -- ---- bodies
-
-two : (a b : Bool) → _≡_ {A = ℕ} (cond a (cond b 0 7) 5) 0 → (a ≡ true) × (b ≡ true)
-two true true h = (refl, refl)
-two true false h = absurd (let z : _≡_ {A = ℕ} 7 0 = h in omega arith)
-two false b h = absurd (let z : _≡_ {A = ℕ} 5 0 = h in omega arith)
 
 body-of : (s : List ℕ) (o : ℕ) → Bytes s → bodyShape s o ≡ true → bodyLimits s o ≡ true → BodyBack s o (bodyAt s o)
 unfolding bodyShape bodyLimits bodyAt
@@ -89,8 +89,7 @@ body-of s o b shape limits =
     }
 
 body-back : (s : List ℕ) (o : ℕ) → Bytes s → bodyFault s o ≡ 0 → BodyBack s o (bodyAt s o)
-unfolding bodyFault
-body-back s o b h = let p = two (bodyShape s o) (bodyLimits s o) h in body-of s o b (p .0) (p .1)
+body-back s o b h = let p = body-tests s o h in body-of s o b (p .0) (p .1)
 
 -- ---- ends
 
@@ -152,16 +151,8 @@ rel-back m s r b h = let p = rel-tests m s r h in rel-of s r b (p .0) (p .1)
 
 -- of a sheet that passes tests 1 to 7 and 14, every body gives its fields back, and every relation
 pub bodies-back : (s : List ℕ) → Bytes s → sheetFault s ≡ 0 → (i : ℕ) → i < bodiesOf s → BodyBack s (bodyStart i) (bodyAt s (bodyStart i))
-unfolding sheetFault
-bodies-back s b h i l =
-    let p = none-of (headerFault s) (orElse (bodiesFault s (bodiesOf s)) (relsFault s (relationsOf s))) h in
-    let q = none-of (bodiesFault s (bodiesOf s)) (relsFault s (relationsOf s)) (p .1) in
-    body-back s (bodyStart i) b (each-body s (bodiesOf s) i (q .0) l)
+bodies-back s b h i l = body-back s (bodyStart i) b (faultless s (bodiesOf s) (relationsOf s) refl refl h .body i l)
 
 pub rels-back : (s : List ℕ) → Bytes s → sheetFault s ≡ 0 → (j : ℕ) → j < relationsOf s
     → RelBack s (relStart (bodiesOf s) j) (relAt s (relStart (bodiesOf s) j))
-unfolding sheetFault
-rels-back s b h j l =
-    let p = none-of (headerFault s) (orElse (bodiesFault s (bodiesOf s)) (relsFault s (relationsOf s))) h in
-    let q = none-of (bodiesFault s (bodiesOf s)) (relsFault s (relationsOf s)) (p .1) in
-    rel-back (bodiesOf s) s (relStart (bodiesOf s) j) b (each-rel s (relationsOf s) j (q .1) l)
+rels-back s b h j l = rel-back (bodiesOf s) s (relStart (bodiesOf s) j) b (faultless s (bodiesOf s) (relationsOf s) refl refl h .rel j l)

@@ -1,5 +1,5 @@
 -- The tests taken one more record at a time, what no fault says of each record, and what a header that passes says of the sheet's length. Assumes nothing.
-use mathlib.Core.Path.{_≡_, refl, sym, _∙_}
+use mathlib.Core.Path.{_≡_, refl, sym, subst, _∙_}
 use mathlib.Core.Bool.{Bool, true, false, _&&_, cond}
 use mathlib.Core.List.{List}
 use mathlib.Core.Logic.{⊎-elim}
@@ -12,7 +12,7 @@ use lib.Dec.{eqb, leb}
 use borrow.Author.Tests.{leb-true, eqb-true}
 use Rattle.records.specs.Record.{byteAt, u16At, zeroBytes}
 use Rattle.format.specs.Format.{bodiesOf, relationsOf, bodyStart, relStart}
-use Rattle.format.specs.Faults.{orElse, headerFault, headerZeros, headerCounts, headerOffsets, bodyFault, relShape, relTeeth, relNames, relLimits, relFault, bodiesFault, relsFault, sheetFault}
+use Rattle.format.specs.Faults.{orElse, headerFault, headerZeros, headerCounts, headerOffsets, bodyShape, bodyLimits, bodyFault, relShape, relTeeth, relNames, relLimits, relFault, bodiesFault, relsFault, sheetFault}
 
 -- ---- one more
 
@@ -38,24 +38,33 @@ pub none-of : (a b : ℕ) → orElse a b ≡ 0 → (a ≡ 0) × (b ≡ 0)
 none-of zero b h = (refl, h)
 none-of (suc a) b h = absurd (omega arith)
 
--- ---- no fault at all: none of any record, and all tests of a relation pass
+-- ---- no fault at all: none of any record, and all tests of a body and of a relation pass
 
-pub each-body : (s : List ℕ) (m i : ℕ) → bodiesFault s m ≡ 0 → i < m → bodyFault s (bodyStart i) ≡ 0
+each-body : (s : List ℕ) (m i : ℕ) → bodiesFault s m ≡ 0 → i < m → bodyFault s (bodyStart i) ≡ 0
 unfolding bodiesFault
 each-body s zero i h l = absurd (omega arith)
 each-body s (suc m) i h l =
     let p = none-of (bodiesFault s m) (bodyFault s (bodyStart m)) h in
     ⊎-elim (λ (e : i ≡ m). rw e (p .1)) (λ (k : i < m). each-body s m i (p .0) k) (eq-or-lt-of-le (le-of-suc-le-suc l))
 
-pub each-rel : (s : List ℕ) (k j : ℕ) → relsFault s k ≡ 0 → j < k → relFault (bodiesOf s) s (relStart (bodiesOf s) j) ≡ 0
+each-rel : (s : List ℕ) (k j : ℕ) → relsFault s k ≡ 0 → j < k → relFault (bodiesOf s) s (relStart (bodiesOf s) j) ≡ 0
 unfolding relsFault
 each-rel s zero j h l = absurd (omega arith)
 each-rel s (suc k) j h l =
     let p = none-of (relsFault s k) (relFault (bodiesOf s) s (relStart (bodiesOf s) k)) h in
     ⊎-elim (λ (e : j ≡ k). rw e (p .1)) (λ (i : j < k). each-rel s k j (p .0) i) (eq-or-lt-of-le (le-of-suc-le-suc l))
 
-four : (a t n l : Bool) → _≡_ {A = ℕ} (cond a (cond t (cond n (cond l 0 7) 6) 14) 5) 0 → (a ≡ true) × (l ≡ true)
-four true true true true h = (refl, refl)
+two : (a b : Bool) → _≡_ {A = ℕ} (cond a (cond b 0 7) 5) 0 → (a ≡ true) × (b ≡ true)
+two true true h = (refl, refl)
+two true false h = absurd (let z : _≡_ {A = ℕ} 7 0 = h in omega arith)
+two false b h = absurd (let z : _≡_ {A = ℕ} 5 0 = h in omega arith)
+
+pub body-tests : (s : List ℕ) (o : ℕ) → bodyFault s o ≡ 0 → (bodyShape s o ≡ true) × (bodyLimits s o ≡ true)
+unfolding bodyFault
+body-tests s o h = two (bodyShape s o) (bodyLimits s o) h
+
+four : (a t n l : Bool) → _≡_ {A = ℕ} (cond a (cond t (cond n (cond l 0 7) 6) 14) 5) 0 → (a ≡ true) × (n ≡ true) × (l ≡ true)
+four true true true true h = (refl, refl, refl)
 four true true true false h = absurd (let z : _≡_ {A = ℕ} 7 0 = h in omega arith)
 four true true false l h = absurd (let z : _≡_ {A = ℕ} 6 0 = h in omega arith)
 four true false n l h = absurd (let z : _≡_ {A = ℕ} 14 0 = h in omega arith)
@@ -63,7 +72,11 @@ four false t n l h = absurd (let z : _≡_ {A = ℕ} 5 0 = h in omega arith)
 
 pub rel-tests : (m : ℕ) (s : List ℕ) (r : ℕ) → relFault m s r ≡ 0 → (relShape s r ≡ true) × (relLimits s r ≡ true)
 unfolding relFault
-rel-tests m s r h = four (relShape s r) (relTeeth s r) (relNames m s r) (relLimits s r) h
+rel-tests m s r h = let p = four (relShape s r) (relTeeth s r) (relNames m s r) (relLimits s r) h in (p .0, p .2)
+
+pub rel-named : (m : ℕ) (s : List ℕ) (r : ℕ) → relFault m s r ≡ 0 → relNames m s r ≡ true
+unfolding relFault
+rel-named m s r h = four (relShape s r) (relTeeth s r) (relNames m s r) (relLimits s r) h .1
 
 -- ---- two tests joined
 
@@ -118,7 +131,23 @@ later t a b f w p q z e = let h : a ≡ 0 = sym q ∙ z in rw (e, p, h)
 pub first : (t a b f : ℕ) → t ≡ orElse a b → f ≡ a → (f ≡ 0 → ⊥) → f ≡ t
 first t a b f p q ne = rw (p, ← q) (or-else-first f b ne)
 
--- a sheet that passes is as long as its header says
-pub sheet-passes : (s : List ℕ) → sheetFault s ≡ 0 → Sized s
+-- of a sheet that passes the header does, and each of its m bodies and k relations
+pub record Faultless (s : List ℕ) (m k : ℕ) : Type 0 where
+  pub header : headerFault s ≡ 0
+  pub body : (i : ℕ) → i < m → bodyFault s (bodyStart i) ≡ 0
+  pub rel : (j : ℕ) → j < k → relFault m s (relStart m j) ≡ 0
+
+pub faultless : (s : List ℕ) (m k : ℕ) → bodiesOf s ≡ m → relationsOf s ≡ k → sheetFault s ≡ 0 → Faultless s m k
 unfolding sheetFault
-sheet-passes s h = header-passes s (none-of (headerFault s) (orElse (bodiesFault s (bodiesOf s)) (relsFault s (relationsOf s))) h .0)
+faultless s m k em ek h =
+    let p = none-of (headerFault s) (orElse (bodiesFault s (bodiesOf s)) (relsFault s (relationsOf s))) h in
+    let q = none-of (bodiesFault s (bodiesOf s)) (relsFault s (relationsOf s)) (p .1) in
+    record {
+      header = p .0;
+      body = λ i l. each-body s (bodiesOf s) i (q .0) (rw em l);
+      rel = λ j l. subst (λ (n : ℕ). relFault n s (relStart n j) ≡ 0) em (each-rel s (relationsOf s) j (q .1) (rw ek l));
+    }
+
+-- it is as long as its header says
+pub sheet-passes : (s : List ℕ) → sheetFault s ≡ 0 → Sized s
+sheet-passes s h = header-passes s (faultless s (bodiesOf s) (relationsOf s) refl refl h .header)

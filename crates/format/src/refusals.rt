@@ -336,7 +336,7 @@ fn rel_limits(s: &[u8], r: usize) -> bool
     offset & (angle & (reference & (a & (b & third))))
 }
 
-fn body_fault(s: &[u8], o: usize) -> u32
+pub fn body_fault(s: &[u8], o: usize) -> u32
     requires { ⌜ o + 136 ≤ length (now s) ⌝ }
     ensures { λ r. ⌜ r ≡ spec.bodyFault (now (s .entry)) o ⌝ }
 {
@@ -347,7 +347,7 @@ fn body_fault(s: &[u8], o: usize) -> u32
     }
 }
 
-fn rel_fault(m: usize, s: &[u8], r: usize) -> u32
+pub fn rel_fault(m: usize, s: &[u8], r: usize) -> u32
     requires { ⌜ r + 264 ≤ length (now s) ⌝ }
     ensures { λ w. ⌜ w ≡ spec.relFault m (now (s .entry)) r ⌝ }
 {

@@ -1,7 +1,7 @@
 // The methods of Rust's f64 that the language lacks, each as specs/Double.antt defines it.
 
 ghost use mathlib.Core.Path.{_≡_};
-ghost use lib.Ieee.{isNan};
+ghost use lib.Ieee.{binary64, isNan, toBits};
 ghost use Rattle.numbers.specs.Double as double;
 ghost use Rattle.numbers.specs.Whole.{Whole-double};
 
@@ -26,6 +26,17 @@ pub fn is_finite(x: f64) -> bool
 {
     let d = x - x;
     d == d
+}
+
+// A double's bits; one pattern for every NaN.
+pub fn bits(x: f64) -> u64
+    ensures { λ r. ⌜ r ≡ toBits binary64 x ⌝ }
+{
+    if x != x {
+        0x7FF8_0000_0000_0000
+    } else {
+        f64::to_bits(x)
+    }
 }
 
 // The sign bit. A NaN counts as positive.

@@ -1,6 +1,6 @@
 -- How many unknowns and rows a scene can have, and that the scratch figures of the code are those of the definitions. By induction over bodies and relations. Assumes
 -- nothing.
-use mathlib.Core.Path.{_≡_, sym, ap, _∙_}
+use mathlib.Core.Path.{_≡_, refl, sym, ap, _∙_}
 use mathlib.Core.Bool.{Bool, true, false}
 use mathlib.Core.List.{List, [], _∷_, _++_}
 use mathlib.Core.Option.{Option, none, some}
@@ -23,9 +23,9 @@ use Rattle.scene.specs.Solve.{startAt, Scene, moves, layoutFrom, unknownsIn, un
 use Rattle.scene.specs.declared.scene.Scene.{Scene as SceneStruct}
 use Rattle.format.specs.Format.{bodiesOf, relationsOf}
 use Rattle.refusals.specs.SceneAt.{sceneAt}
-use Rattle.format.specs.Faults.{orElse, headerZeros, headerCounts, headerOffsets, headerFault, bodiesFault, relsFault, sheetFault}
+use Rattle.format.specs.Faults.{headerZeros, headerCounts, headerOffsets, headerFault, sheetFault}
 use Rattle.refusals.specs.Refusals.{rowsIn}
-use Rattle.format.proofs.RefusalLaws.{none-of, and-left, and-right, passes}
+use Rattle.format.proofs.RefusalLaws.{and-left, and-right, passes, faultless}
 
 -- six unknowns to a body at the most
 layout-more : (t : Bool) (next k : ℕ) (a b : List (Option ℕ)) → unknownsIn a ≤ 6 * k → unknownsIn b ≤ 6 * k → unknownsIn (elim t [ true ↦ some next ∷ a | false ↦ none ∷ b ]) ≤ 6 * suc k
@@ -58,9 +58,9 @@ rows-le poses (rel ∷ rels) = rows-more (rowsAt poses rel) _ (length rels) (rel
 -- ---- a sheet that passes has at most 64 bodies and 128 relations
 
 pub counted : (s : List ℕ) → sheetFault s ≡ 0 → (bodiesOf s ≤ 64) × (relationsOf s ≤ 128)
-unfolding sheetFault headerFault headerCounts
+unfolding headerFault headerCounts
 counted s h =
-    let f = none-of (headerFault s) (orElse (bodiesFault s (bodiesOf s)) (relsFault s (relationsOf s))) h .0 in
+    let f = faultless s (bodiesOf s) (relationsOf s) refl refl h .header in
     let c = passes (leb 24 (length s)) (headerZeros s) (headerCounts s) (headerOffsets s) f .2 in
     (leb-true (bodiesOf s) 64 (and-left (leb (bodiesOf s) 64) _ c), leb-true (relationsOf s) 128 (and-right (leb (bodiesOf s) 64) _ c))
 

@@ -1,6 +1,6 @@
 -- A sheet's report from the answers of its two calls: its text has no more of the slices than the k errors and the first 29 doubles of each of the m bodies, and a refusal is
 -- the first call's that refuses. Assumes nothing.
-use mathlib.Core.Path.{_≡_, refl, sym, ap, subst, _∙_}
+use mathlib.Core.Path.{_≡_, refl, sym, ap, _∙_}
 use mathlib.Core.Bool.{Bool, true, false, cond}
 use mathlib.Core.List.{List, _++_}
 use Prim.Native.Nat.{ℕ, zero, suc, _+_, _*_, _≤_, _<_}
@@ -20,11 +20,10 @@ use Rattle.format.proofs.RefusalLaws.{first, later}
 use Rattle.refusals.proofs.NumberLaws.{solve-le, dof-le}
 use Rattle.sheet.proofs.FreedomLaws.{accepted, whole-few}
 use Rattle.refusals.proofs.FigureLaws.{counted}
-use Rattle.report.specs.Report.{relationLine, bodyLine, lines, relationLines, bodyLines, answerText, refusedText, Put}
+use Rattle.writing.specs.Bytes.{joined, Put}
+use Rattle.writing.proofs.PutLaws.{put-as}
+use Rattle.report.specs.Report.{relationLine, bodyLine, relationLines, bodyLines, answerText, refusedText}
 use Rattle.report.specs.ReportOf.{numberOf, answerOf, reportOf}
-
-pub put-as : (s t : List ℕ) (o r : ℕ) (l l' : List ℕ) → l ≡ l' → Put s t o r l → Put s t o r l'
-put-as s t o r l l' e p = subst (λ (w : List ℕ). Put s t o r w) e p
 
 -- a text with equal counts
 pub put-counted : (s t : List ℕ) (o r : ℕ) (b : Bool) (errors : List Float) (k k' free : ℕ) (freedoms : List Float) (m m' : ℕ) → k ≡ k' → m ≡ m'
@@ -33,22 +32,22 @@ put-counted s t o r b errors k k' free freedoms m m' e f p = put-as s t o r _ _ 
 
 -- ---- what the text depends on
 
-lines-same : (f g : ℕ → List ℕ) (k : ℕ) → ((j : ℕ) → j < k → f j ≡ g j) → lines f k ≡ lines g k
-unfolding lines
-lines-same f g zero h = refl
-lines-same f g (suc k) h =
-    let a = lines-same f g k (λ j l. h j (omega arith)) in
+joined-same : (f g : ℕ → List ℕ) (k : ℕ) → ((j : ℕ) → j < k → f j ≡ g j) → joined f k ≡ joined g k
+unfolding joined
+joined-same f g zero h = refl
+joined-same f g (suc k) h =
+    let a = joined-same f g k (λ j l. h j (omega arith)) in
     let b = h k (omega arith) in
     (λ i. a i ++ b i)
 
 relations-front : (l rest : List Float) (k : ℕ) → k ≤ length l → relationLines (l ++ rest) k ≡ relationLines l k
 relations-front l rest k h =
-    lines-same (λ j. relationLine j (getD (l ++ rest) j nan)) (λ j. relationLine j (getD l j nan)) k
+    joined-same (λ j. relationLine j (getD (l ++ rest) j nan)) (λ j. relationLine j (getD l j nan)) k
     (λ j w. ap (λ (x : Float). relationLine j x) (List·getD-append l rest nan j (omega arith)))
 
 bodies-front : (l rest : List Float) (m : ℕ) → 29 * m ≤ length l → bodyLines (l ++ rest) m ≡ bodyLines l m
 bodies-front l rest m h =
-    lines-same (λ i. bodyLine i (getD (l ++ rest) (29 * i) nan) (getD (l ++ rest) (29 * i + 1) nan)) (λ i. bodyLine i (getD l (29 * i) nan) (getD l (29 * i + 1) nan)) m
+    joined-same (λ i. bodyLine i (getD (l ++ rest) (29 * i) nan) (getD (l ++ rest) (29 * i + 1) nan)) (λ i. bodyLine i (getD l (29 * i) nan) (getD l (29 * i + 1) nan)) m
     (λ j w.
     let a = List·getD-append l rest nan (29 * j) (omega arith) in
     let b = List·getD-append l rest nan (29 * j + 1) (omega arith) in

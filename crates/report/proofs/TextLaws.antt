@@ -1,115 +1,19 @@
--- How many bytes the pieces of a report take, and bytes written one piece after another. By the library's laws on `take`, `drop` and `set`. Assumes nothing.
+-- How many bytes the pieces of a report take, and digits put one before another. Assumes nothing.
 use mathlib.Core.Path.{_≡_, refl, sym, ap, subst, _∙_}
 use mathlib.Core.Bool.{Bool, true, false}
 use mathlib.Core.List.{List, [], _∷_, _++_, append-nil, append-assoc}
 use Prim.Native.Nat.{ℕ, zero, suc, _+_, _-_, _*_, _/_, _%_, _^_, _≤_, _<_}
 use native.Mathlib.Omega.{arith}
-use native.Mathlib.Numerals.{add-one}
-use native.Mathlib.Nat.{div-lt-self, div-lt-iff-lt-mul, mul-suc, pow-suc}
+use native.Mathlib.Nat.{div-lt-self, div-lt-iff-lt-mul, pow-suc}
 use lib.Dec.{ltb}
 use borrow.Author.Tests.{ltb-false, lt-ltb, le-ltb}
-use lib.ListN.{length, getD, set, take, drop, length-drop, length-append, take-append-drop}
-use lib.Seq.{length-take-le, take-at, drop-at, take-append-le, take-take, drop-drop, take-suc, take-all, set-split}
-use lib.Ieee.{Float, nan, inf, fin, binary64, isNan, toBits}
-use Rattle.report.specs.Report.{digits, placesIn, decimal, bitsText, countDigit, numberLine, relationLine, bodyLine, lines, relationLines, bodyLines, glyph, Put}
-
--- ---- one piece after another
-
-pub put-size : (s t : List ℕ) (o r : ℕ) (l : List ℕ) → Put s t o r l → length t ≡ length s
-put-size s t o r l p =
-    let n = p .next in
-    let h = p .room in
-    let a = length-take-le o s (omega arith) in
-    let b = length-append (take o s) (l ++ drop r s) in
-    let c = length-append l (drop r s) in
-    let d = length-drop r s in
-    ap length (p .text) ∙ (omega arith)
-
-pub put-nothing : (s : List ℕ) (o : ℕ) → o ≤ length s → Put s s o o []
-put-nothing s o h = record { next = omega arith; room = h; text = sym (take-append-drop o s) }
-
-pub put-one : (s : List ℕ) (o : ℕ) (b : ℕ) → o < length s → Put s (set s o b) o (o + 1) (b ∷ [])
-put-one s o b h =
-    record { next = refl; room = omega arith; text = set-split s o b h ∙ ap (λ (w : ℕ). take o s ++ (b ∷ drop w s)) (sym (add-one o)) }
-
-module _ (s t : List ℕ) (o q : ℕ) (a : List ℕ) (p : Put s t o q a) where
-  front : length (take o s ++ a) ≡ q
-  front =
-      let n = p .next in
-      let h = p .room in
-      let b = length-take-le o s (omega arith) in
-      length-append (take o s) a ∙ (omega arith)
-
-  halves : t ≡ (take o s ++ a) ++ drop q s
-  halves = p .text ∙ sym (append-assoc (take o s) a (drop q s))
-
-  before-it : take q t ≡ take o s ++ a
-  before-it = ap (take q) halves ∙ take-at (take o s ++ a) (drop q s) q front
-
-  behind-it : (k : ℕ) → drop (q + k) t ≡ drop (q + k) s
-  behind-it k = sym (drop-drop k q t) ∙ ap (drop k) (ap (drop q) halves ∙ drop-at (take o s ++ a) (drop q s) q front) ∙ drop-drop k q s
-
-pub put-then : (s t u : List ℕ) (o q r : ℕ) (a b : List ℕ) → Put s t o q a → Put t u q r b → Put s u o r (a ++ b)
-put-then s t u o q r a b x y =
-    let n = x .next in
-    let m = y .next in
-    let h = y .room in
-    let z = put-size s t o q a x in
-    let l = length-append a b in
-    record {
-      next = omega arith;
-      room = omega arith;
-      text =
-          y .text ∙ ap (λ (w : List ℕ). w ++ (b ++ drop r t)) (before-it s t o q a x)
-          ∙ ap (λ (w : List ℕ). (take o s ++ a) ++ (b ++ w)) (ap (λ (k : ℕ). drop k t) m ∙ behind-it s t o q a x (length b) ∙ ap (λ (k : ℕ). drop k s) (sym m))
-          ∙ append-assoc (take o s) a (b ++ drop r s)
-          ∙ ap (λ (w : List ℕ). take o s ++ w) (sym (append-assoc a b (drop r s)));
-    }
-
--- one byte before a piece
-pub put-before : (s t : List ℕ) (i q r : ℕ) (l : List ℕ) (b : ℕ) → q ≡ i + 1 → Put s t q r l → Put s (set t i b) i r (b ∷ l)
-put-before s t i q r l b e p =
-    let n = p .next in
-    let h = p .room in
-    let z = put-size s t q r l p in
-    let k : i < length t = omega arith in
-    let f : length (take q s) ≡ q = length-take-le q s (omega arith) in
-    let g : i ≤ length (take q s) = omega arith in
-    let j : i ≤ q = omega arith in
-    record {
-      next = omega arith;
-      room = h;
-      text =
-          set-split t i b k
-          ∙ ap (λ (w : List ℕ). w ++ (b ∷ drop (suc i) t)) (ap (take i) (p .text) ∙ take-append-le i (take q s) (l ++ drop r s) g ∙ take-take i q s j)
-          ∙ ap (λ (w : List ℕ). take i s ++ (b ∷ w))
-          (ap (λ (w : ℕ). drop w t) (sym (add-one i) ∙ sym e) ∙ ap (drop q) (p .text) ∙ drop-at (take q s) (l ++ drop r s) q f);
-    }
-
--- one byte more of a word
-pub put-more : (s t : List ℕ) (o i : ℕ) (l : List ℕ) → i < length l → Put s t o (o + i) (take i l) → o + i < length s
-    → Put s (set t (o + i) (getD l i 0)) o (o + (i + 1)) (take (i + 1) l)
-put-more s t o i l h p k =
-    let z = put-size s t o (o + i) (take i l) p in
-    let e : o + i + 1 ≡ o + (i + 1) = omega arith in
-    subst (λ (w : ℕ). Put s (set t (o + i) (getD l i 0)) o w (take (i + 1) l)) e
-    (subst (λ (w : List ℕ). Put s (set t (o + i) (getD l i 0)) o (o + i + 1) w) (sym (take-suc l i 0 h) ∙ ap (λ (w : ℕ). take w l) (sym (add-one i)))
-    (put-then s t (set t (o + i) (getD l i 0)) o (o + i) (o + i + 1) (take i l) (getD l i 0 ∷ []) p (put-one t (o + i) (getD l i 0) (omega arith))))
-
--- none of the word's bytes, and all of them
-pub put-start : (s : List ℕ) (o : ℕ) (l : List ℕ) → o ≤ length s → Put s s o (o + 0) (take 0 l)
-put-start s o l h = let e : o ≡ o + 0 = omega arith in subst (λ (w : ℕ). Put s s o w []) e (put-nothing s o h)
-
-pub put-whole : (s t : List ℕ) (o i : ℕ) (l : List ℕ) → i ≡ length l → Put s t o (o + i) (take i l) → Put s t o (o + i) l
-put-whole s t o i l e p = subst (λ (w : List ℕ). Put s t o (o + i) w) (take-all i l (omega arith)) p
+use lib.ListN.{length, getD, set, length-append}
+use lib.Ieee.{Float, nan, binary64, toBits}
+use Rattle.writing.specs.Bytes.{Put}
+use Rattle.writing.proofs.PutLaws.{put-nothing, put-before, joined-at-most}
+use Rattle.report.specs.Report.{digits, placesIn, decimal, bitsText, countDigit, numberLine, relationLine, bodyLine, relationLines, bodyLines, glyph}
 
 -- ---- digits
-
-pub bits-nan : (x : Float) → isNan x ≡ true → toBits binary64 x ≡ 0x7FF8_0000_0000_0000
-unfolding isNan toBits
-bits-nan nan e = refl
-bits-nan (inf s) e = let z : _≡_ {A = ℕ} 0 1 = cc in absurd (omega arith)
-bits-nan (fin s m k) e = let z : _≡_ {A = ℕ} 0 1 = cc in absurd (omega arith)
 
 pub digits-length : (b k n : ℕ) → length (digits b k n) ≡ k
 unfolding digits
@@ -200,29 +104,6 @@ decimal-length n h = rw (digits-length 10 (placesIn n n) n) (places-bound 4 n n 
 
 -- ---- lines
 
-pub lines-next : (line : ℕ → List ℕ) (j : ℕ) → lines line (j + 1) ≡ lines line j ++ line j
-unfolding lines
-lines-next line j = ap (lines line) (add-one j)
-
-pub lines-length : (line : ℕ → List ℕ) (b k : ℕ) → ((j : ℕ) → j < k → length (line j) ≤ b) → length (lines line k) ≤ b * k
-unfolding lines
-lines-length line b zero h = omega arith
-lines-length line b (suc k) h =
-    let w = lines-length line b k (λ j l. h j (omega arith)) in
-    let v = h k (omega arith) in
-    let a = length-append (lines line k) (line k) in
-    let m = mul-suc b k in
-    omega arith
-
--- a turn of a loop that writes lines
-pub lines-step : (line : ℕ → List ℕ) (s t u : List ℕ) (o q r j : ℕ) → Put s t o q (lines line j) → Put t u q r (line j) → Put s u o r (lines line (j + 1))
-lines-step line s t u o q r j x y =
-    subst (λ (w : List ℕ). Put s u o r w) (sym (lines-next line j)) (put-then s t u o q r (lines line j) (line j) x y)
-
-pub lines-start : (line : ℕ → List ℕ) (s : List ℕ) (o : ℕ) → o ≤ length s → Put s s o o (lines line 0)
-unfolding lines
-lines-start line s o h = put-nothing s o h
-
 pub number-length : (word : List ℕ) (n : ℕ) → n < 100000 → length (numberLine word n) ≤ length word + 6
 number-length word n h =
     let a = length-append word (decimal n ++ (10 ∷ [])) in
@@ -245,11 +126,11 @@ body-length i slides turns h =
     omega arith
 
 pub relations-length : (errors : List Float) (k : ℕ) → k ≤ 128 → length (relationLines errors k) ≤ 32 * k
-relations-length errors k h = lines-length (λ j. relationLine j (getD errors j nan)) 32 k (λ j l. relation-length j (getD errors j nan) (omega arith))
+relations-length errors k h = joined-at-most (λ j. relationLine j (getD errors j nan)) 32 k (λ j l. relation-length j (getD errors j nan) (omega arith))
 
 pub bodies-length : (freedoms : List Float) (m : ℕ) → m ≤ 64 → length (bodyLines freedoms m) ≤ 15 * m
 bodies-length freedoms m h =
-    lines-length (λ i. bodyLine i (getD freedoms (29 * i) nan) (getD freedoms (29 * i + 1) nan)) 15 m
+    joined-at-most (λ i. bodyLine i (getD freedoms (29 * i) nan) (getD freedoms (29 * i + 1) nan)) 15 m
     (λ i l. body-length i (getD freedoms (29 * i) nan) (getD freedoms (29 * i + 1) nan) (omega arith))
 
 -- a body's counts, by their digits

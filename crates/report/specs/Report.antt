@@ -1,13 +1,13 @@
 -- What the program `report` prints, as a list of bytes (ASCII). Document 01, "What a call says": which lines, in which order, and what each of them says. Each line
 -- ends with a newline. Definitions only.
-use Prim.Native.Nat.{ℕ, zero, suc, _+_, _*_, _/_, _%_, _≤_}
-use mathlib.Core.Path.{_≡_}
+use Prim.Native.Nat.{ℕ, zero, suc, _+_, _*_, _/_, _%_}
 use mathlib.Core.Bool.{Bool, true, false, cond}
 use mathlib.Core.List.{List, [], _∷_, _++_}
-use lib.ListN.{length, getD, take, drop}
+use lib.ListN.{getD}
 use lib.Dec.{ltb}
 use lib.Ieee.{Float, nan, binary64, eq, ofBits, toBits}
 use Rattle.numbers.specs.Double.{zero64, one64}
+use Rattle.writing.specs.Bytes.{joined}
 
 -- ---- words
 
@@ -76,17 +76,12 @@ relationLine j x = relationWord ++ (decimal j ++ ((32 ∷ []) ++ (bitsText x ++ 
 abbrev pub bodyLine : ℕ → Float → Float → List ℕ
 bodyLine i slides turns = bodyWord ++ (decimal i ++ (32 ∷ countDigit slides ∷ 32 ∷ countDigit turns ∷ 10 ∷ []))
 
--- the first k lines
-unfoldable pub lines : (ℕ → List ℕ) → ℕ → List ℕ
-lines line zero = []
-lines line (suc k) = lines line k ++ line k
-
 abbrev pub relationLines : List Float → ℕ → List ℕ
-relationLines errors k = lines (λ j. relationLine j (getD errors j nan)) k
+relationLines errors k = joined (λ j. relationLine j (getD errors j nan)) k
 
 -- a body has 29 doubles, of which the first two are its counts
 abbrev pub bodyLines : List Float → ℕ → List ℕ
-bodyLines freedoms m = lines (λ i. bodyLine i (getD freedoms (29 * i) nan) (getD freedoms (29 * i + 1) nan)) m
+bodyLines freedoms m = joined (λ i. bodyLine i (getD freedoms (29 * i) nan) (getD freedoms (29 * i + 1) nan)) m
 
 -- ---- what is printed
 
@@ -97,11 +92,3 @@ answerText converged errors k free freedoms m = convergedLine converged ++ (rela
 -- where one of them refuses
 abbrev pub refusedText : ℕ → List ℕ
 refusedText number = numberLine refusedWord number
-
--- ---- promises
-
--- from s to t the bytes l have come to stand from place o on, r is the place behind them, and nothing else has changed
-pub record Put (s t : List ℕ) (o r : ℕ) (l : List ℕ) : Type 0 where
-  pub next : r ≡ o + length l
-  pub room : r ≤ length s
-  pub text : t ≡ take o s ++ (l ++ drop r s)

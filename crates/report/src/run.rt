@@ -11,7 +11,8 @@ ghost use lib.Dec.{eqb};
 ghost use lib.ListN.{length};
 ghost use Rattle.format.specs.Format.{bodiesOf, relationsOf};
 ghost use Rattle.format.specs.Faults.{sheetFault};
-ghost use Rattle.report.specs.Report.{Put, answerText};
+ghost use Rattle.writing.specs.Bytes.{Put};
+ghost use Rattle.report.specs.Report.{answerText};
 ghost use Rattle.report.specs.ReportOf.{reportOf};
 
 // The text of two answers, with as many relations and bodies as the sheet has.

@@ -1,9 +1,10 @@
 // The text that `report` prints. Each function writes bytes to lent memory from the place `at` on and returns the place behind them.
 
+use numbers::bits;
 ghost use mathlib.Core.Path.{_≡_};
 ghost use Prim.Native.Nat.{_+_, _*_, _≤_, _<_};
 ghost use lib.ListN.{length};
-ghost use lib.Ieee.{binary64, toBits};
+ghost use Rattle.writing.specs.Bytes.{Put};
 ghost use Rattle.report.specs.Report as spec;
 
 // The digit of a number below 16: 0 to 9, then A to F.
@@ -32,7 +33,7 @@ fn put_digits(out: &mut [u8], at: usize, n: u64, base: u64, k: usize) -> usize
     requires { ⌜ 0 < base ⌝ }
     requires { ⌜ base ≤ 16 ⌝ }
     requires { ⌜ at + k ≤ length (now out) ⌝ }
-    ensures { λ r. ⌜ spec.Put (now (out .entry)) (now (out .exit)) at r (spec.digits base k n) ⌝ }
+    ensures { λ r. ⌜ Put (now (out .entry)) (now (out .exit)) at r (spec.digits base k n) ⌝ }
 {
     let mut i = k;
     let mut rest = n;
@@ -47,26 +48,15 @@ fn put_digits(out: &mut [u8], at: usize, n: u64, base: u64, k: usize) -> usize
 fn put_decimal(out: &mut [u8], at: usize, n: usize) -> usize
     requires { ⌜ n < 100000 ⌝ }
     requires { ⌜ at + 5 ≤ length (now out) ⌝ }
-    ensures { λ r. ⌜ spec.Put (now (out .entry)) (now (out .exit)) at r (spec.decimal n) ⌝ }
+    ensures { λ r. ⌜ Put (now (out .entry)) (now (out .exit)) at r (spec.decimal n) ⌝ }
 {
     let k = places(n);
     put_digits(out, at, n as u64, 10, k)
 }
 
-// A double's bits; one pattern for every NaN.
-fn bits(x: f64) -> u64
-    ensures { λ r. ⌜ r ≡ toBits binary64 x ⌝ }
-{
-    if x != x {
-        0x7FF8_0000_0000_0000
-    } else {
-        f64::to_bits(x)
-    }
-}
-
 fn put_bits(out: &mut [u8], at: usize, x: f64) -> usize
     requires { ⌜ at + 16 ≤ length (now out) ⌝ }
-    ensures { λ r. ⌜ spec.Put (now (out .entry)) (now (out .exit)) at r (spec.bitsText x) ⌝ }
+    ensures { λ r. ⌜ Put (now (out .entry)) (now (out .exit)) at r (spec.bitsText x) ⌝ }
 {
     let n = bits(x);
     put_digits(out, at, n, 16, 16)
@@ -74,7 +64,7 @@ fn put_bits(out: &mut [u8], at: usize, x: f64) -> usize
 
 fn put_word(out: &mut [u8], at: usize, word: &[u8]) -> usize
     requires { ⌜ at + length (now word) ≤ length (now out) ⌝ }
-    ensures { λ r. ⌜ spec.Put (now (out .entry)) (now (out .exit)) at r (now (word .entry)) ⌝ }
+    ensures { λ r. ⌜ Put (now (out .entry)) (now (out .exit)) at r (now (word .entry)) ⌝ }
 {
     let mut i = 0usize;
     while i < word.len() {
@@ -101,7 +91,7 @@ fn count_digit(x: f64) -> u8
 
 fn put_converged(out: &mut [u8], at: usize, converged: bool) -> usize
     requires { ⌜ at + 12 ≤ length (now out) ⌝ }
-    ensures { λ r. ⌜ spec.Put (now (out .entry)) (now (out .exit)) at r (spec.convergedLine converged) ⌝ }
+    ensures { λ r. ⌜ Put (now (out .entry)) (now (out .exit)) at r (spec.convergedLine converged) ⌝ }
 {
     if converged {
         put_word(out, at, b"converged 1\n")
@@ -114,7 +104,7 @@ fn put_converged(out: &mut [u8], at: usize, converged: bool) -> usize
 fn put_number(out: &mut [u8], at: usize, word: &[u8], n: usize) -> usize
     requires { ⌜ n < 100000 ⌝ }
     requires { ⌜ at + (length (now word) + 6) ≤ length (now out) ⌝ }
-    ensures { λ r. ⌜ spec.Put (now (out .entry)) (now (out .exit)) at r (spec.numberLine (now (word .entry)) n) ⌝ }
+    ensures { λ r. ⌜ Put (now (out .entry)) (now (out .exit)) at r (spec.numberLine (now (word .entry)) n) ⌝ }
 {
     let a = put_word(out, at, word);
     let b = put_decimal(out, a, n);
@@ -125,7 +115,7 @@ fn put_number(out: &mut [u8], at: usize, word: &[u8], n: usize) -> usize
 fn put_relation(out: &mut [u8], at: usize, j: usize, x: f64) -> usize
     requires { ⌜ j < 100000 ⌝ }
     requires { ⌜ at + 32 ≤ length (now out) ⌝ }
-    ensures { λ r. ⌜ spec.Put (now (out .entry)) (now (out .exit)) at r (spec.relationLine j x) ⌝ }
+    ensures { λ r. ⌜ Put (now (out .entry)) (now (out .exit)) at r (spec.relationLine j x) ⌝ }
 {
     let a = put_word(out, at, b"relation ");
     let b = put_decimal(out, a, j);
@@ -138,7 +128,7 @@ fn put_relation(out: &mut [u8], at: usize, j: usize, x: f64) -> usize
 fn put_body(out: &mut [u8], at: usize, i: usize, slides: f64, turns: f64) -> usize
     requires { ⌜ i < 100000 ⌝ }
     requires { ⌜ at + 15 ≤ length (now out) ⌝ }
-    ensures { λ r. ⌜ spec.Put (now (out .entry)) (now (out .exit)) at r (spec.bodyLine i slides turns) ⌝ }
+    ensures { λ r. ⌜ Put (now (out .entry)) (now (out .exit)) at r (spec.bodyLine i slides turns) ⌝ }
 {
     let counts = [b' ', count_digit(slides), b' ', count_digit(turns), b'\n'];
     let a = put_word(out, at, b"body ");
@@ -150,7 +140,7 @@ fn put_relations(out: &mut [u8], at: usize, errors: &[f64], k: usize) -> usize
     requires { ⌜ k ≤ 128 ⌝ }
     requires { ⌜ k ≤ length (now errors) ⌝ }
     requires { ⌜ at + 32 * k ≤ length (now out) ⌝ }
-    ensures { λ r. ⌜ spec.Put (now (out .entry)) (now (out .exit)) at r (spec.relationLines (now (errors .entry)) k) ⌝ }
+    ensures { λ r. ⌜ Put (now (out .entry)) (now (out .exit)) at r (spec.relationLines (now (errors .entry)) k) ⌝ }
 {
     let mut next = at;
     for j in 0..k {
@@ -163,7 +153,7 @@ fn put_bodies(out: &mut [u8], at: usize, freedoms: &[f64], m: usize) -> usize
     requires { ⌜ m ≤ 64 ⌝ }
     requires { ⌜ 29 * m ≤ length (now freedoms) ⌝ }
     requires { ⌜ at + 15 * m ≤ length (now out) ⌝ }
-    ensures { λ r. ⌜ spec.Put (now (out .entry)) (now (out .exit)) at r (spec.bodyLines (now (freedoms .entry)) m) ⌝ }
+    ensures { λ r. ⌜ Put (now (out .entry)) (now (out .exit)) at r (spec.bodyLines (now (freedoms .entry)) m) ⌝ }
 {
     let mut next = at;
     for i in 0..m {
@@ -189,7 +179,7 @@ pub fn answer_text(
     requires { ⌜ m ≤ 64 ⌝ }
     requires { ⌜ 29 * m ≤ length (now freedoms) ⌝ }
     requires { ⌜ 8192 ≤ length (now out) ⌝ }
-    ensures { λ r. ⌜ spec.Put (now (out .entry)) (now (out .exit)) 0 r (spec.answerText converged (now (errors .entry)) k free (now (freedoms .entry)) m) ⌝ }
+    ensures { λ r. ⌜ Put (now (out .entry)) (now (out .exit)) 0 r (spec.answerText converged (now (errors .entry)) k free (now (freedoms .entry)) m) ⌝ }
 {
     let a = put_converged(out, 0, converged);
     let b = put_relations(out, a, errors, k);
@@ -201,7 +191,7 @@ pub fn answer_text(
 pub fn refused_text(out: &mut [u8], number: u32) -> usize
     requires { ⌜ number < 100000 ⌝ }
     requires { ⌜ 8192 ≤ length (now out) ⌝ }
-    ensures { λ r. ⌜ spec.Put (now (out .entry)) (now (out .exit)) 0 r (spec.refusedText number) ⌝ }
+    ensures { λ r. ⌜ Put (now (out .entry)) (now (out .exit)) 0 r (spec.refusedText number) ⌝ }
 {
     put_number(out, 0, b"refused ", number as usize)
 }

@@ -1,5 +1,5 @@
 -- Every relation of a sheet that passes is within the limits that the row bound asks for: the tests read each double that a relation has, and more. Assumes nothing.
-use mathlib.Core.Path.{_≡_, sym, ap, subst, _∙_}
+use mathlib.Core.Path.{_≡_, refl, sym, ap, subst, _∙_}
 use mathlib.Core.Bool.{Bool, true, false, _&&_}
 use mathlib.Core.List.{List}
 use Prim.Native.Nat.{ℕ, _+_, _*_, _<_}
@@ -20,8 +20,8 @@ use Rattle.closeness.specs.RowBound.{smallGeo, smallEnd, smallLaw, smallRel}
 use Rattle.least_squares.proofs.TableLaws.{length-listOf, getD-listOf}
 use Rattle.format.specs.Format.{bodiesOf, relationsOf, relStart}
 use Rattle.refusals.specs.SceneAt.{sceneAt}
-use Rattle.format.specs.Faults.{orElse, endLimits, relLimits, headerFault, bodiesFault, relsFault, sheetFault}
-use Rattle.format.proofs.RefusalLaws.{none-of, each-rel, rel-tests}
+use Rattle.format.specs.Faults.{endLimits, relLimits, sheetFault}
+use Rattle.format.proofs.RefusalLaws.{rel-tests, faultless}
 
 -- ---- from the tests to the limits of the row bound
 
@@ -75,12 +75,7 @@ module _ (s : List ℕ) (r : ℕ) where
 -- ---- every relation of the sheet
 
 pub rel-limits : (s : List ℕ) → sheetFault s ≡ 0 → (j : ℕ) → j < relationsOf s → relLimits s (relStart (bodiesOf s) j) ≡ true
-unfolding sheetFault
-rel-limits s h j l =
-    let p = none-of (headerFault s) (orElse (bodiesFault s (bodiesOf s)) (relsFault s (relationsOf s))) h .1 in
-    let q = none-of (bodiesFault s (bodiesOf s)) (relsFault s (relationsOf s)) p .1 in
-    let r = relStart (bodiesOf s) j in
-    rel-tests (bodiesOf s) s r (each-rel s (relationsOf s) j q l) .1
+rel-limits s h j l = rel-tests (bodiesOf s) s (relStart (bodiesOf s) j) (faultless s (bodiesOf s) (relationsOf s) refl refl h .rel j l) .1
 
 -- relation j of the scene is the one that the tests read
 pub rel-is : (s : List ℕ) (j : ℕ) (d : Rel) → j < relationsOf s → getD (sceneAt s .rels) j d ≡ relAt s (relStart (bodiesOf s) j)

@@ -7,7 +7,8 @@ use native.Mathlib.Omega.{arith}
 use borrow.Author.Needs.{needs}
 use lib.ListN.{length}
 use Rattle.refusals.specs.Refusals.{solveFault, dofFault}
-use Rattle.report.proofs.RunLaws.{answered, dof-number, dof-small, first-refused, free-small, put-as, second-refused, sheet-passes, solve-number, solve-small}
+use Rattle.writing.proofs.PutLaws.{put-as}
+use Rattle.report.proofs.RunLaws.{answered, dof-number, dof-small, first-refused, free-small, second-refused, sheet-passes, solve-number, solve-small}
 use Rattle.report.proofs.run.report.Statement.{statement}
 use Rattle.report.proofs.run.report.Tie as tie
 

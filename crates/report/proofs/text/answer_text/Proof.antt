@@ -4,7 +4,8 @@ use Prim.Native.Nat.{_+_, _*_, _≤_}
 use native.Mathlib.Omega.{arith}
 use borrow.Author.Needs.{needs}
 use Rattle.report.specs.Report.{freeWord}
-use Rattle.report.proofs.TextLaws.{number-length, relations-length, put-then}
+use Rattle.writing.proofs.PutLaws.{put-then}
+use Rattle.report.proofs.TextLaws.{number-length, relations-length}
 use Rattle.report.proofs.text.answer_text.Statement.{statement}
 use Rattle.report.proofs.text.answer_text.Tie as tie
 

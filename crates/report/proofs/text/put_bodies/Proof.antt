@@ -5,8 +5,10 @@ use Prim.Native.Nat.{_+_, _-_, _*_, _≤_}
 use native.Mathlib.Omega.{arith}
 use lib.ListN.{length, getD}
 use lib.Ieee.{nan}
-use Rattle.report.specs.Report.{Put, bodyLine, bodyLines}
-use Rattle.report.proofs.TextLaws.{put-size, lines-start, lines-step, bodies-length}
+use Rattle.writing.specs.Bytes.{Put}
+use Rattle.report.specs.Report.{bodyLine, bodyLines}
+use Rattle.writing.proofs.PutLaws.{put-size, joined-start, joined-step}
+use Rattle.report.proofs.TextLaws.{bodies-length}
 use Rattle.report.proofs.text.put_bodies.Statement.{statement}
 use Rattle.report.proofs.text.put_bodies.Tie as tie
 
@@ -17,7 +19,7 @@ abbrev μ-loop : tie.MeasureT-loop
 μ-loop out₀ at freedoms m next₀ i₀ out next i = m - i
 
 loop-holds : tie.Need-loop-holds Inv-loop μ-loop
-loop-holds c = (omega arith, omega arith, lines-start _ _ _ (omega arith))
+loop-holds c = (omega arith, omega arith, joined-start _ _ _ (omega arith))
 
 mul-o : tie.Need-mul-o Inv-loop μ-loop
 mul-o c = omega arith
@@ -55,7 +57,7 @@ loop-again c =
     let l = c .before .before .before .before .before .before .before .loop in
     let freedoms = c .before .before .before .before .before .before .before .before .before .before .args .freedoms .now in
     let p
-    = lines-step (λ i. bodyLine i (getD freedoms (29 * i) nan) (getD freedoms (29 * i + 1) nan)) _ (l .out) _ _ _ _ (l .i) (l .inv .2) (c .before .before .put-body .ensures) in
+    = joined-step (λ i. bodyLine i (getD freedoms (29 * i) nan) (getD freedoms (29 * i + 1) nan)) _ (l .out) _ _ _ _ (l .i) (l .inv .2) (c .before .before .put-body .ensures) in
     (omega arith, put-size _ _ _ _ _ p, p)
 
 same-length : tie.Need-same-length Inv-loop μ-loop

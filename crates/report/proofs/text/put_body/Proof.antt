@@ -2,7 +2,8 @@
 -- five bytes, 15 bytes are room enough. Assumes nothing.
 use native.Mathlib.Omega.{arith}
 use borrow.Author.Needs.{needs}
-use Rattle.report.proofs.TextLaws.{decimal-length, put-then, put-counts}
+use Rattle.writing.proofs.PutLaws.{put-then}
+use Rattle.report.proofs.TextLaws.{decimal-length, put-counts}
 use Rattle.report.proofs.text.put_body.Statement.{statement}
 use Rattle.report.proofs.text.put_body.Tie as tie
 

@@ -5,7 +5,8 @@ use Prim.Native.Nat.{_%_, _≤_, _<_}
 use native.Mathlib.Omega.{arith}
 use native.Mathlib.Nat.{mod-lt}
 use lib.ListN.{length}
-use Rattle.report.proofs.TextLaws.{Spelled, spelled-start, spelled-step, spelled-end, put-size}
+use Rattle.writing.proofs.PutLaws.{put-size}
+use Rattle.report.proofs.TextLaws.{Spelled, spelled-start, spelled-step, spelled-end}
 use Rattle.report.proofs.text.put_digits.Statement.{statement}
 use Rattle.report.proofs.text.put_digits.Tie as tie
 

@@ -2,7 +2,8 @@
 -- digits (`decimal-length`), so the newline has room. Assumes nothing.
 use native.Mathlib.Omega.{arith}
 use borrow.Author.Needs.{needs}
-use Rattle.report.proofs.TextLaws.{decimal-length, put-then}
+use Rattle.writing.proofs.PutLaws.{put-then}
+use Rattle.report.proofs.TextLaws.{decimal-length}
 use Rattle.report.proofs.text.put_number.Statement.{statement}
 use Rattle.report.proofs.text.put_number.Tie as tie
 

@@ -7,7 +7,8 @@ use borrow.Author.Needs.{needs}
 use lib.Ieee.{binary64, toBits}
 use lib.ListN.{length}
 use Rattle.report.specs.Report.{decimal, bitsText}
-use Rattle.report.proofs.TextLaws.{decimal-length, digits-length, put-then}
+use Rattle.writing.proofs.PutLaws.{put-then}
+use Rattle.report.proofs.TextLaws.{decimal-length, digits-length}
 use Rattle.report.proofs.text.put_relation.Statement.{statement}
 use Rattle.report.proofs.text.put_relation.Tie as tie
 

@@ -5,8 +5,10 @@ use Prim.Native.Nat.{_-_, _≤_}
 use native.Mathlib.Omega.{arith}
 use lib.ListN.{length, getD}
 use lib.Ieee.{nan}
-use Rattle.report.specs.Report.{Put, relationLine, relationLines}
-use Rattle.report.proofs.TextLaws.{put-size, lines-start, lines-step, relations-length}
+use Rattle.writing.specs.Bytes.{Put}
+use Rattle.report.specs.Report.{relationLine, relationLines}
+use Rattle.writing.proofs.PutLaws.{put-size, joined-start, joined-step}
+use Rattle.report.proofs.TextLaws.{relations-length}
 use Rattle.report.proofs.text.put_relations.Statement.{statement}
 use Rattle.report.proofs.text.put_relations.Tie as tie
 
@@ -17,7 +19,7 @@ abbrev μ-loop : tie.MeasureT-loop
 μ-loop out₀ at errors k next₀ j₀ out next j = k - j
 
 loop-holds : tie.Need-loop-holds Inv-loop μ-loop
-loop-holds c = (omega arith, omega arith, lines-start _ _ _ (omega arith))
+loop-holds c = (omega arith, omega arith, joined-start _ _ _ (omega arith))
 
 mul-put-relation : tie.Need-mul-put-relation Inv-loop μ-loop
 mul-put-relation c = omega arith
@@ -42,7 +44,7 @@ loop-again : tie.Need-loop-again Inv-loop μ-loop
 loop-again c =
     let l = c .before .before .before .before .before .before .loop in
     let errors = c .before .before .before .before .before .before .before .before .before .args .errors .now in
-    let p = lines-step (λ j. relationLine j (getD errors j nan)) _ (l .out) _ _ _ _ (l .j) (l .inv .2) (c .before .before .put-relation .ensures) in
+    let p = joined-step (λ j. relationLine j (getD errors j nan)) _ (l .out) _ _ _ _ (l .j) (l .inv .2) (c .before .before .put-relation .ensures) in
     (omega arith, put-size _ _ _ _ _ p, p)
 
 same-length : tie.Need-same-length Inv-loop μ-loop

@@ -3,8 +3,8 @@ use mathlib.Core.Path.{_≡_}
 use Prim.Native.Nat.{_+_, _-_, _≤_}
 use native.Mathlib.Omega.{arith}
 use lib.ListN.{length, take}
-use Rattle.report.specs.Report.{Put}
-use Rattle.report.proofs.TextLaws.{put-size, put-start, put-more, put-whole}
+use Rattle.writing.specs.Bytes.{Put}
+use Rattle.writing.proofs.PutLaws.{put-size, put-start, put-more, put-whole}
 use Rattle.report.proofs.text.put_word.Statement.{statement}
 use Rattle.report.proofs.text.put_word.Tie as tie
 

@@ -1,10 +1,10 @@
--- `lists::answers::bits` meets its contract: what differs from itself is the NaN, and what equals itself is none, so that it has bits. Assumes nothing.
+-- `numbers::bits` meets its contract: what differs from itself is the NaN, and what equals itself is none, so that it has bits. Assumes nothing.
 use mathlib.Core.Path.{sym, _∙_}
 use lib.Ieee.{toBits}
 use borrow.Author.Needs.{needs}
 use Rattle.numbers.proofs.DoubleLaws.{ne-self, nan-only}
-use Rattle.lists.proofs.answers.bits.Statement.{statement}
-use Rattle.lists.proofs.answers.bits.Tie as tie
+use Rattle.numbers.proofs.bits.Statement.{statement}
+use Rattle.numbers.proofs.bits.Tie as tie
 
 float-to-bits-result : tie.Need-float-to-bits-result
 float-to-bits-result c = rw (sym (ne-self (c .before .args .x)) ∙ c .if1 .left) tt
