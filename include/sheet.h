@@ -1,7 +1,7 @@
-/* Placement of movement parts: the calls on a sheet.
+/* Placement of movement parts: the calls on a sheet, and the call that writes one.
  *
- * Every call takes the sheet's bytes. It gives 0 if the call is accepted, and otherwise the number of the first test that
- * refuses it; a refused call changes nothing that was lent to it, the single numbers included:
+ * Every call but sheet_write takes the sheet's bytes. It gives 0 if the call is accepted, and otherwise the number of the
+ * first test that refuses it; a refused call changes nothing that was lent to it, the single numbers included:
  *
  *    1  the sheet has under 24 bytes
  *    2  the version, or a 0 of the header, is wrong
@@ -12,18 +12,19 @@
  *    7  a double is a NaN or over its limit
  *    8  the drag is neither 65535, for none, nor the number of a body
  *    9  the scratch is too short
- *   10  an output slice is too short
+ *   10  an output slice is too short, or for sheet_write what it reads
  *   11  judging: the law does not suit the two ends
  *   12  judging: a tangent's ends are not round, or not round with a plane
  *   13  the sheet has no such relation
  *   14  a wheel of a gear has 0 teeth, or more than 400
  *
  * Tests 1 to 4 come first, then each body in order by 5 and 7, then each relation in order by 5, 14, 6 and 7, then 13, 8, 11,
- * 12, 10, 9. A test of what a call does not take is skipped.
+ * 12, 10, 9. A test of what a call does not take is skipped. sheet_write has an order of its own, below.
  *
- * Nothing is kept after a call, and no memory is taken: a call reads the sheet and writes only where its output and scratch
- * pointers point. No pointer may be null, no output or scratch may overlap the sheet or another of them, and doubles stand at
- * addresses that are multiples of 8. Lengths are counted in elements: bytes for a sheet, doubles for a slice of doubles.
+ * Nothing is kept after a call, and no memory is taken: a call reads the sheet, or what it writes a sheet from, and writes
+ * only where its output and scratch pointers point. No pointer may be null, no output or scratch may overlap what the call
+ * reads or another of them; doubles stand at addresses that are multiples of 8, words at multiples of 2. Lengths are counted
+ * in elements: bytes for a sheet, doubles for a slice of doubles.
  */
 #ifndef SHEET_H
 #define SHEET_H
@@ -81,6 +82,27 @@ uint32_t sheet_solve(const uint8_t *sheet, size_t sheet_len, uint16_t drag, doub
  * Short freedoms are refused by 10, and short scratch by 9. What stands in freedoms past 29*m is kept. */
 uint32_t sheet_dof(const uint8_t *sheet, size_t sheet_len, double *scratch, size_t scratch_len, double *freedoms,
                    size_t freedoms_len, uint32_t *free);
+
+/* Writes the sheet of a scene: m bodies and k relations, taken apart into bytes, words and numbers, all bodies first.
+ *
+ *   bytes      2 a body: fixed (0 or 1), and one that is 0; then 9 a relation: law, joint, flag, then primitive and mirrored
+ *              of end a, of end b and of the third end; at least 2*m + 9*k
+ *   words      5 a relation: the teeth of a and of b, then the bodies of a, of b and of the third end, 65535 for the ground;
+ *              at least 5*k
+ *   numbers    16 a body: origin, x, y, z of its frame, centre, size; then 29 a relation: offset, angle, reference, then point,
+ *              direction, circle radius and end radius of a, of b and of the third end; at least 16*m + 29*k
+ *   sheet      at least 24 + 136*m + 264*k bytes; what stands in it past these is kept
+ *
+ * A field that the law or the primitive does not use is 0: as a number +0, and -0 is refused by 5; an unused third end is 0
+ * throughout, its body's word too. The numbers are those of the sheet, so what is written is read back with the same bits, -0
+ * of a used number too; a NaN is refused, by 7 where it is used and by 5 where it is not. What stands past m bodies and k
+ * relations is not looked at.
+ *
+ * Tests: 3 for m and k; 10 for short bytes, words or numbers; each body in order by 5 and 7, each relation in order by 5, 14,
+ * 6 and 7, which give the number that reading the sheet would; 10 for a short sheet. A scene that passes has this one sheet:
+ * taking an accepted sheet apart and writing it gives its bytes again. */
+uint32_t sheet_write(uint16_t m, uint16_t k, const uint8_t *bytes, size_t bytes_len, const uint16_t *words, size_t words_len,
+                     const double *numbers, size_t numbers_len, uint8_t *sheet, size_t sheet_len);
 
 #ifdef __cplusplus
 }

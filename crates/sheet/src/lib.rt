@@ -1,4 +1,5 @@
 // The calls on a sheet and the C interface.
 pub mod calls;
 pub mod freedoms;
+pub mod saving;
 pub mod solving;
