@@ -1,0 +1,5 @@
+pub mod ReadingLaws
+pub mod PartsLaws
+pub mod SavingLaws
+pub mod FieldLaws
+pub mod SavedLaws

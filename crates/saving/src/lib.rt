@@ -1,0 +1,3 @@
+// A scene in memory, its bodies and relations as the solver's structs, saved as a sheet.
+pub mod parts;
+pub mod save;
