@@ -1,8 +1,9 @@
-//! Time per call of the linked arcs, root, `solve` and `dof` beside Rust's own on the same arguments, in one run. Not a test.
+//! Time per call of the linked arcs, root, `solve` and `dof` beside Rust's own on the same arguments, and of writing beside the second writer,
+//! in one run. Not a test.
 
 use crate::answer::Call;
 use crate::rng::Rng;
-use crate::{port, whole};
+use crate::{port, whole, writing};
 
 pub fn run() -> bool {
     let mut rng = Rng(1);
@@ -33,7 +34,7 @@ pub fn run() -> bool {
     true
 }
 
-/// `solve` and `dof` on each sheet, both sides from its bytes on.
+/// `solve` and `dof` on each sheet, both sides from its bytes on; then writing its scene, tests included.
 pub fn sheets(files: &[&str]) -> bool {
     let lots = 2_000_000;
     let mut scratch = vec![f64::NAN; lots];
@@ -52,6 +53,16 @@ pub fn sheets(files: &[&str]) -> bool {
             let ours = milliseconds(&mut || port::run(&bytes, call, &mut scratch));
             println!("{name:6} {m:2} bodies, {k:3} relations: {ours:9.3} ms   Rust {theirs:9.3} ms   ratio {:.2}", ours / theirs);
         }
+        let scene = writing::apart(&bytes);
+        let mut sheet = vec![0; bytes.len()];
+        let theirs = milliseconds(&mut || {
+            std::hint::black_box((writing::by_reading(&scene, bytes.len()), writing::laid(&scene)));
+        });
+        let ours = milliseconds(&mut || {
+            port::write(scene.m, scene.k, &scene.bytes, &scene.words, &scene.numbers, &mut sheet);
+        });
+        assert_eq!(sheet, bytes);
+        println!("write  {m:2} bodies, {k:3} relations: {ours:9.3} ms   Rust {theirs:9.3} ms   ratio {:.2}", ours / theirs);
     }
     true
 }

@@ -5,8 +5,8 @@ use crate::sheet::*;
 use std::collections::BTreeMap;
 use std::sync::atomic::Ordering;
 
-const LAWS: [&str; 8] = ["mate", "flush", "angle", "insert", "tangent", "symmetry", "joint", "gear"];
-const JOINTS: [&str; 6] = ["rigid", "revolute", "slider", "cylindrical", "planar", "ball"];
+pub const LAWS: [&str; 8] = ["mate", "flush", "angle", "insert", "tangent", "symmetry", "joint", "gear"];
+pub const JOINTS: [&str; 6] = ["rigid", "revolute", "slider", "cylindrical", "planar", "ball"];
 pub const PRIMS: [&str; 4] = ["plane", "line", "point", "circle"];
 /// The refusals that each call can give.
 const REFUSALS: [&[u32]; 5] = [
@@ -64,6 +64,16 @@ impl Cover {
     }
     pub fn add(&mut self, what: String, n: u64) {
         *self.0.entry(what).or_insert(0) += n;
+    }
+    /// Counts a kind that is wanted; any other is left out.
+    pub fn meet(&mut self, what: &str) {
+        if let Some(n) = self.0.get_mut(what) {
+            *n += 1;
+        }
+    }
+    /// Whether a kind is wanted and was never met.
+    pub fn lacks(&self, what: &str) -> bool {
+        self.0.get(what) == Some(&0)
     }
 
     pub fn sheet(&mut self, s: &Sheet) {

@@ -7,9 +7,11 @@ use crate::gears;
 use crate::generate;
 use crate::plain::{self, list, vec3};
 use crate::rng::Rng;
+use crate::scenes::{self, Case};
 use crate::sheet::{Body, Relation, Sheet};
 use crate::trains;
 use crate::whole;
+use crate::writing::{by_reading, laid};
 use std::sync::atomic::Ordering;
 use tenon::math::{M3, frame_of, rotation_between, span_basis, sym_eigen};
 use tenon::{Frame, Vec3, lm, solve};
@@ -475,6 +477,51 @@ fn geared_sheets(dir: &str, rng: &mut Rng, scale: usize) {
     geared.write(dir, "sheets_geared");
 }
 
+/// A scene that is lent and what writing it gives: m, k, the lengths of bytes, words, numbers and sheet, then bytes, words and numbers, the
+/// number, and for 0 the sheet.
+fn scene_words(case: &Case) -> Vec<u64> {
+    let scene = case.scene;
+    let mut out = vec![scene.m as u64, scene.k as u64];
+    out.extend(scene.lengths().iter().chain([&case.room]).map(|n| *n as u64));
+    out.extend(record_words(&scene.bytes));
+    out.extend(record_words(&scene.words.iter().flat_map(|w| w.to_le_bytes()).collect::<Vec<u8>>()));
+    out.extend(scene.numbers.iter().map(|d| bits(f64::from_bits(*d))));
+    out.push(case.number as u64);
+    if case.number == 0 {
+        out.extend(record_words(&laid(scene)));
+    }
+    out
+}
+
+/// What crates/write_list, the program that replays the scenes, has room for: bytes, words, numbers and the sheet's bytes.
+const REPLAYED_SCENE: [usize; 4] = [1400, 700, 5000, 43_000];
+
+/// Scenes, each kept for a kind of case that none before it is. Of those refused only short ones are kept, and one each with the fault in the
+/// last of 64 bodies, in the last of 128 relations, and with 65 bodies.
+fn written_scenes(dir: &str) {
+    let (mut scenes, mut cover) = (List::new(), scenes::want());
+    scenes::cases(13, 60, &mut |case: Case| {
+        assert_eq!(case.number, by_reading(case.scene, case.room));
+        let [bytes, words, numbers] = case.scene.lengths();
+        let fits = [bytes, words, numbers, case.room].iter().zip(REPLAYED_SCENE).all(|(length, most)| *length <= most);
+        let fresh = case.kinds.iter().any(|kind| cover.lacks(kind));
+        let last = case.kinds.iter().any(|kind| kind.starts_with("refused in the last") && cover.lacks(kind));
+        let short = match case.number {
+            0 => true,
+            3 => numbers <= 1100,
+            _ => numbers <= if last { 4000 } else { 400 },
+        };
+        if fits && fresh && short {
+            let record = scene_words(&case);
+            // What the program reads after the list's end.
+            assert!(!record.contains(&u64::MAX));
+            scenes.put_words(&record);
+            case.kinds.iter().for_each(|kind| cover.meet(kind));
+        }
+    });
+    scenes.write(dir, "scenes_written");
+}
+
 /// Which branches of the Rust have been taken since the last `forget`.
 fn taken() -> Vec<bool> {
     tenon::COVER.iter().map(|c| c.load(Ordering::Relaxed) > 0).collect()
@@ -494,6 +541,7 @@ pub fn write(dir: &str, scale: usize) -> bool {
     sheet_lists(dir, &mut Rng(5), scale);
     gear_rows(dir, &mut Rng(9), scale);
     geared_sheets(dir, &mut Rng(10), scale);
+    written_scenes(dir);
     let count = |taken: &[bool]| taken.iter().filter(|t| **t).count();
     println!("branches of the Rust: {}, taken for single functions {}, for sheets {}", tenon::NAMES.len(), count(&by_functions), count(&taken()));
     for ((name, function), sheet) in tenon::NAMES.iter().zip(by_functions).zip(taken()) {

@@ -13,9 +13,11 @@ mod generate;
 mod lists;
 mod port;
 mod rng;
+mod scenes;
 mod sheet;
 mod trains;
 mod whole;
+mod writing;
 
 /// The calls as tenon answers them.
 mod plain {
@@ -58,6 +60,7 @@ oracle sheet SEED N           the linked sheet library against the Rust on N val
 oracle limits FILE..          the same at the limits of bodies, relations and rows, and on the sheets in these files
 oracle run-report PROGRAM SEED N    the program report against the Rust
 oracle gears SEED N [PROGRAM] the sheet library, and the program report, on gears: 8N rows, N valid and N damaged sheets
+oracle write SEED N FILE..    the sheet library's writing against the second writer: N scenes, fields changed, limits, the sheets in these files
 oracle lists DIR [SCALE]      the frozen lists (FORMATS.md); SCALE above 1 makes longer ones";
 
 fn main() {
@@ -81,6 +84,7 @@ fn main() {
         ["run-report", program, seed, n] => compare::report(program, number(seed) as u64, number(n)),
         ["gears", seed, n] => gears::run(number(seed) as u64, number(n), None),
         ["gears", seed, n, program] => gears::run(number(seed) as u64, number(n), Some(program)),
+        ["write", seed, n, ref files @ ..] => scenes::run(number(seed) as u64, number(n), files),
         ["bench"] => bench::run(),
         ["bench", ref files @ ..] => bench::sheets(files),
         ["examples"] => examples::run(),

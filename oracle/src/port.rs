@@ -29,6 +29,24 @@ unsafe extern "C" {
         freedoms_len: usize,
         free: *mut u32,
     ) -> u32;
+    fn sheet_write(
+        m: u16,
+        k: u16,
+        bytes: *const u8,
+        bytes_len: usize,
+        words: *const u16,
+        words_len: usize,
+        numbers: *const f64,
+        numbers_len: usize,
+        sheet: *mut u8,
+        sheet_len: usize,
+    ) -> u32;
+}
+
+/// The number that writing a scene gives; its sheet is put to the slice. The numbers are given by their bits, so that a NaN keeps its own.
+pub fn write(m: u16, k: u16, bytes: &[u8], words: &[u16], numbers: &[u64], sheet: &mut [u8]) -> u32 {
+    let (b, w, n) = (bytes.as_ptr(), words.as_ptr(), numbers.as_ptr().cast::<f64>());
+    unsafe { sheet_write(m, k, b, bytes.len(), w, words.len(), n, numbers.len(), sheet.as_mut_ptr(), sheet.len()) }
 }
 
 /// `solve` or `dof` with this scratch, for its time; the answer is dropped.
