@@ -12,6 +12,8 @@ import sys
 ROOT = pathlib.Path(__file__).resolve().parent.parent
 FILE = ROOT / "docs" / "crates.svg"
 OUTSIDE = {"io", "os", "libc", "std"}
+# What is used from outside: the program, and what saves a scene of structs.
+TOPS = ["report", "saving"]
 WIDTH, HEIGHT, GAP, RISE, EDGE = 104, 28, 20, 62, 16
 
 
@@ -23,7 +25,7 @@ def crates():
         if line:
             name, below = line.split(":")
             found[name] = set(below.split()) - OUTSIDE
-    drawn = {"report"} | all_below("report", found)
+    drawn = set().union(*({top} | all_below(top, found) for top in TOPS))
     return {name: below for name, below in found.items() if name in drawn}
 
 

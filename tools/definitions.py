@@ -4,8 +4,8 @@
     python3 tools/definitions.py [PAGE]      PAGE is docs/DEFINITIONS.md unless another is given
 
 The page's own tables are worked: formulas by tools/formulas.py, and relations, bodies and headers by the page's offsets.
-Nothing of the solver's code or of the Rust is used. The frozen answers are those of the Rust, and for gears, which it does not
-have, those of a second program of ours. The comparisons:
+Nothing of the solver's code or of the Rust is used. The frozen answers are those of the Rust, and for gears and for saving, which
+it does not have, those of a second program of ours. The comparisons:
 
   rows        crates/row_list/data/rows.bin, the Rust's, and gear_rows.bin, our second program's: every row and every error, bit
               for bit; the unit of every row, by doubling all lengths
@@ -15,6 +15,9 @@ have, those of a second program of ours. The comparisons:
               refused with
   solved      sheets_solved.bin, the Rust's, and sheets_geared.bin, our second program's: where still bodies stand, every error at
               the poses, what converged says, what is filled in
+  written     crates/write_list/data/scenes_written.bin, our second program's: which number every scene gives that is lent for
+              saving, and every byte of the sheet of each that is accepted; reading the sheet as laid out gives the number that the
+              tests of its records give
   numbers     each number of the table "Numbers", and of the text on solving and freedom, stands in a definition named beside it
   names       each definition that the page names stands in the file that it names
   sketches    each sketch that the page shows is there, as tools/sketches.py draws it, and there is no other
@@ -37,6 +40,7 @@ ROOT = pathlib.Path(__file__).resolve().parent.parent
 ROWS = ROOT / "crates" / "row_list" / "data"
 VECTORS = ROOT / "crates" / "vector_list" / "data"
 SHEETS = ROOT / "crates" / "sheet_list" / "data"
+SCENES = ROOT / "crates" / "write_list" / "data"
 
 problems = []
 
@@ -58,6 +62,12 @@ def cells(line):
 
 def code(cell):
     return cell[1:-1] if len(cell) > 1 and cell[0] == cell[-1] == "`" else cell
+
+
+def span(cell):
+    """The numbers of "3" or of "3-5"."""
+    first, _, last = cell.partition("-")
+    return range(int(first), int(last or first) + 1)
 
 
 def read_tables(text):
@@ -88,8 +98,7 @@ class Group:
         self.ends = tuple(row["ends"].removesuffix(" ⇄").split(", "))
         self.flags = [int(f) for f in row["aligned"].split(", ")] if "aligned" in row else None
         self.joint, self.third = row.get("joint"), row.get("third")
-        first, _, last = row["rows"].partition("-")
-        self.rows = list(range(int(first), int(last or first) + 1))
+        self.rows = list(span(row["rows"]))
         self.tree = parsed(self.formula)
         if self.unit not in ("mm", "part", "rad"):
             problem(f"{self} has the unit {self.unit!r}")
@@ -142,8 +151,7 @@ class Definitions:
                 problem(f"{f.name}: allowed is {f.allowed}, and the numbers of the page go up to {max(self.numbers[f.name])}")
         self.filled = {}
         for row in self.table("What is filled in", "of").rows:
-            first, _, last = row["doubles"].partition("-")
-            self.filled.setdefault(row["of"], []).append(range(int(first), int(last or first) + 1))
+            self.filled.setdefault(row["of"], []).append(span(row["doubles"]))
         for of, size in (("pose", 12), ("frame", 12), ("freedom", 29)):
             if [i for part in self.filled[of] for i in part] != list(range(size)):
                 problem(f"the doubles of a {of} are not 0 to {size - 1} in order")
@@ -154,6 +162,7 @@ class Definitions:
         faults = {f.fault for fields in self.fields.values() for f in fields if f.fault}
         if len(set(self.tests)) != len(self.tests) or faults | {1} != set(self.tests):
             problem(f"the tests of the text are {self.tests}, and the faults of the tables {sorted(faults)}")
+        self.saving = Saving(self)
         self.met = Counter()
 
     def table(self, heading, first):
@@ -181,9 +190,15 @@ class Definitions:
             problem(f"{name}: the fields end at {at}, and the page gives it {size} bytes")
         return at
 
+    def field(self, record, name):
+        found = [f for f in self.fields[record] if f.name == name]
+        if len(found) != 1:
+            raise ValueError(f"{record} has {len(found)} fields {name!r}")
+        return found[0]
+
     def uses(self, name, law):
         """Whether a law uses the relation's field."""
-        field = next(f for f in self.fields["Relation"] if f.name == name)
+        field = self.field("Relation", name)
         return field.used is None or law in field.used
 
     # -- reading a record by the page's offsets
@@ -253,10 +268,18 @@ class Definitions:
         for line in list(self.page.lines()) + list(self.gaps.values()) + list(self.readings.values()):
             if not self.page.met[line]:
                 yield line.what
+        for part in self.saving.parts:
+            if not self.met[part]:
+                yield f"a scene {'refused' if part.idle else 'saved'} with {part} that is not 0"
+        for test in self.saving.tests:
+            for n in test.numbers:
+                if not self.met[test, n]:
+                    yield f"a scene refused by {n} of its {test.of}"
 
 
 class Field:
     FORMS = {"byte": "B", "u16": "H", "u32": "I", "double": "d"}
+    WIDTHS = {"byte": 1, "u16": 2, "u32": 4, "double": 8}
 
     def __init__(self, row):
         self.offset, self.size, self.type, self.name = int(row["offset"]), int(row["size"]), row["type"], code(row["name"])
@@ -266,7 +289,7 @@ class Field:
         many, _, one = self.type.rpartition(" ")
         self.one = one.removesuffix("s") if many else self.type
         self.many = int(many) if many else None
-        width = {"byte": 1, "u16": 2, "u32": 4, "double": 8}.get(self.one)
+        width = self.WIDTHS.get(self.one)
         if width and self.size != width * (self.many or 1):
             problem(f"{self.name}: {self.type} is not {self.size} bytes")
 
@@ -280,6 +303,141 @@ class Field:
 
 def read_fields(table):
     return [Field(row) for row in table.rows]
+
+
+# ---- how a scene is lent for saving
+
+class Slice:
+    """A slice that is lent: what its elements are, how many of them a body and a relation have, how many there are in all."""
+
+    def __init__(self, row):
+        self.name, self.element = code(row["slice"]), row["elements"]
+        self.width = Field.WIDTHS[self.element]
+        self.each = {"Body": int(row["each body"]), "Relation": int(row["each relation"])}
+        self.all = parsed(code(row["in all"]))
+
+    def start(self, record, i, m):
+        """The first element of body i, or of relation i after m bodies."""
+        return self.each[record] * i + (self.each["Body"] * m if record == "Relation" else 0)
+
+
+class Part:
+    """Some places among a body's or a relation's elements of a slice, and the field that they are. No law has a use for an idle one."""
+
+    def __init__(self, d, record, slice, places, field, end=None):
+        self.record, self.slice, self.places, self.field = record, slice, span(places), field
+        self.offset = field.offset + (end.offset if end else 0)
+        self.name = f"{end.name}.{field.name}" if end else field.name
+        self.size = len(self.places) * slice.width
+        laws = [law for law in d.counts if end is None or end.used is None or law in end.used]
+        used = field.used is None or any(name in laws or name in d.numbers["primitive"].values() for name in field.used)
+        self.idle = field.name == "zero" or not used
+        # of bytes that are 0 the first are lent
+        fits = self.size <= field.size and slice.element == "byte" if field.name == "zero" else self.size == field.size and slice.element == field.one
+        if not fits:
+            problem(f"{self}: {len(self.places)} of {slice.element} are not {field.size} bytes of {field.type}")
+
+    def __str__(self):
+        return f"{self.record.lower()}, {self.slice.name} {self.places[0]}-{self.places[-1]}: {self.name}"
+
+    def lent(self, scene, i):
+        """The part's bytes in body i or relation i of the scene."""
+        at = self.slice.width * (self.slice.start(self.record, i, scene.m) + self.places[0])
+        data = scene.lent[self.slice.name][at:at + self.size]
+        if len(data) != self.size:
+            raise ValueError(f"{self}: a scene that is tested by it does not have it")
+        return data
+
+
+class Test:
+    """A line of the order of tests: what is tested, and by which numbers, in which order."""
+
+    def __init__(self, row):
+        self.of, self.numbers = row["of"], [int(n) for n in row["number"].split(", ")]
+
+
+class Saving:
+    """The tables of how a scene is lent and tested."""
+
+    def __init__(self, d):
+        heading, ends = "Saving a scene", [f for f in d.fields["Relation"] if f.type == "end"]
+        slices = [Slice(row) for row in d.table(heading, "slice").rows]
+        if [s.name for s in slices] != ["bytes", "words", "numbers", "sheet"]:
+            problem("the slices of a scene are not bytes, words, numbers and sheet")
+        self.slices = {s.name: s for s in slices}
+        self.parts = []
+        for row in d.table(heading, "of").rows:
+            record = row["of"].capitalize()
+            self.parts.append(Part(d, record, self.slices[row["slice"]], row["places"], d.field(record, code(row["field"]))))
+        for row in d.table(heading, "of each end").rows:
+            field = d.field("End", code(row["of each end"]))
+            self.parts += [Part(d, "Relation", self.slices[row["slice"]], row[f"`{end.name}`"], field, end) for end in ends]
+        lines = d.table(heading, "order").rows
+        if [row["order"] for row in lines] != [str(i + 1) for i in range(len(lines))]:
+            problem("the order of a scene's tests is not counted from 1")
+        self.tests = [Test(row) for row in lines]
+        if sorted(t.of for t in self.tests) != ["bodies", "counts", "relations", "sheet", "slices"]:
+            problem("a scene's tests are not those of its counts, slices, bodies, relations and sheet")
+        self.whole(d, ends)
+
+    def whole(self, d, ends):
+        """Each field is lent once, a slice's places have no gap, and the counts are those of the records."""
+        for record in ("Body", "Relation"):
+            lent = Counter(p.name for p in self.parts if p.record == record and p.field.name != "zero")
+            fields = [f.name for f in d.fields[record] if f.type != "end" and f.name != "zero"]
+            fields += [f"{e.name}.{f.name}" for e in ends if record == "Relation" for f in d.fields["End"] if f.name != "zero"]
+            if lent != Counter(fields):
+                problem(f"of a {record.lower()} these are not lent once: {', '.join(sorted((lent - Counter(fields)) + (Counter(fields) - lent)))}")
+            for name, s in self.slices.items():
+                places = sorted(i for p in self.parts if p.record == record and p.slice is s for i in p.places)
+                if name != "sheet" and places != list(range(s.each[record])):
+                    problem(f"the places of a {record.lower()} in {name} are not 0 to {s.each[record] - 1}, each once")
+        if self.slices["sheet"].each != {record: d.sizes[record] for record in ("Body", "Relation")}:
+            problem("the bytes of a body or a relation in the sheet are not those of its table")
+        for s in self.slices.values():
+            for m, k in ((0, 0), (1, 0), (0, 1), (64, 128)):
+                least = s.each["Body"] * m + s.each["Relation"] * k + (d.sizes["Header"] if s.name == "sheet" else 0)
+                if self.needed(d, s, m, k) != least:
+                    problem(f"{s.name}: of {m} bodies and {k} relations there are {self.needed(d, s, m, k)} in all, and {least} by the counts of each")
+
+    def needed(self, d, s, m, k):
+        return d.page.value(s.all, {"m": float(m), "k": float(k)})
+
+
+class Scene:
+    """A scene of the list: m, k, the bytes of each slice that is lent, and how many bytes there are for the sheet."""
+
+    def __init__(self, scenes):
+        self.m, self.k, *lengths, self.room = scenes.words(6)
+        self.lent = {}
+        for name, width, length in zip(("bytes", "words", "numbers"), (1, 2, 8), lengths):
+            self.lent[name] = scenes.bytes((width * length + 7) // 8 * 8)[:width * length]
+
+    def length(self, s):
+        return self.room if s.name == "sheet" else len(self.lent[s.name]) // s.width
+
+
+def laid_header(d, scene):
+    out, known = bytearray(d.sizes["Header"]), {"m": float(scene.m), "k": float(scene.k)}
+    for f in d.fields["Header"]:
+        if f.name != "zero":
+            value = known[f.name] if f.name in known else d.page.value(parsed(code(f.allowed)), known)
+            struct.pack_into("<" + f.FORMS[f.one], out, f.offset, int(value))
+    return bytes(out)
+
+
+def laid_record(d, scene, record, i):
+    out = bytearray(d.sizes[record])
+    for part in d.saving.parts:
+        if part.record == record:
+            out[part.offset:part.offset + part.size] = part.lent(scene, i)
+    return bytes(out)
+
+
+def laid(d, scene):
+    """The sheet by the page's tables, whatever stands in the scene's fields."""
+    records = [laid_record(d, scene, record, i) for record, n in (("Body", scene.m), ("Relation", scene.k)) for i in range(n)]
+    return laid_header(d, scene) + b"".join(records)
 
 
 # ---- the sheet's faults by the page
@@ -308,7 +466,15 @@ def first_fault(d, faults):
     return min((x for x in faults if x), key=d.tests.index, default=0)
 
 
-def relation_fault(d, data, at, known):
+def header_faults(d, data, known):
+    return [field_fault(d, f, data, 0, None, known) for f in d.fields["Header"]]
+
+
+def body_faults(d, data, at, known):
+    return [field_fault(d, f, data, at, None, known) for f in d.fields["Body"]]
+
+
+def relation_faults(d, data, at, known):
     law = d.numbers["law"].get(data[at + d.fields["Relation"][0].offset])
     uses_law = lambda used: law in used
     faults = []
@@ -321,7 +487,7 @@ def relation_fault(d, data, at, known):
             continue
         primitive = d.numbers["primitive"].get(data[at + f.offset + d.fields["End"][0].offset])
         faults += [field_fault(d, g, data, at + f.offset, lambda used: law in used or primitive in used, known) for g in d.fields["End"]]
-    return first_fault(d, faults)
+    return faults
 
 
 def sheet_fault(d, data):
@@ -329,20 +495,45 @@ def sheet_fault(d, data):
     if len(data) < d.sizes["Header"]:
         return 1
     known = {name: float(v) for name, v in d.read("Header", data, 0).items()}
-    fault = first_fault(d, (field_fault(d, f, data, 0, None, known) for f in d.fields["Header"]))
+    fault = first_fault(d, header_faults(d, data, known))
     if fault or len(data) != known["length"]:
         return fault or 4
     header = d.read("Header", data, 0)
     for i in range(header["m"]):
-        at = header["bodies"] + d.sizes["Body"] * i
-        fault = first_fault(d, (field_fault(d, f, data, at, None, known) for f in d.fields["Body"]))
+        fault = first_fault(d, body_faults(d, data, header["bodies"] + d.sizes["Body"] * i, known))
         if fault:
             return fault
     for j in range(header["k"]):
-        fault = relation_fault(d, data, header["relations"] + d.sizes["Relation"] * j, known)
+        fault = first_fault(d, relation_faults(d, data, header["relations"] + d.sizes["Relation"] * j, known))
         if fault:
             return fault
     return 0
+
+
+def faults_of(d, test, scene):
+    """Of each thing that a line of the order of tests is about, the numbers that it fails by."""
+    known, slices = {"m": float(scene.m), "k": float(scene.k)}, d.saving.slices.values()
+    short = lambda s: scene.length(s) < d.saving.needed(d, s, scene.m, scene.k)
+    if test.of == "counts":
+        yield header_faults(d, laid_header(d, scene), known)
+    elif test.of == "bodies":
+        yield from (body_faults(d, laid_record(d, scene, "Body", i), 0, known) for i in range(scene.m))
+    elif test.of == "relations":
+        yield from (relation_faults(d, laid_record(d, scene, "Relation", j), 0, known) for j in range(scene.k))
+    else:
+        yield test.numbers if any(short(s) for s in slices if (s.name == "sheet") == (test.of == "sheet")) else []
+
+
+def scene_fault(d, scene):
+    """The number by the page's order of a scene's tests, or 0, and the line that gives it."""
+    for test in d.saving.tests:
+        for faults in faults_of(d, test, scene):
+            found = set(faults) - {0}
+            if found - set(test.numbers):
+                problem(f"a scene fails by {sorted(found)} of its {test.of}, and the order of tests has {test.numbers}")
+            if found:
+                return next((n for n in test.numbers if n in found), 0), test
+    return 0, None
 
 
 def judged(d, rel):
@@ -633,6 +824,47 @@ def compare_answers(d, name, laws):
     print("  relations by law " + ", ".join(f"{law}: {relations[law]}" for law in d.counts if relations[law]))
 
 
+def compare_written(d):
+    """scenes_written.bin: the number that each scene gives, and each sheet, laid out by the page's tables."""
+    scenes, numbers, laws, longer, length = List(SCENES / "scenes_written.bin"), Counter(), Counter(), 0, 0
+    for i in range(scenes.count):
+        scene = Scene(scenes)
+        number = scenes.word()
+        sheet = scenes.bytes(24 + 136 * scene.m + 264 * scene.k) if not number else None
+        (mine, test), written = scene_fault(d, scene), b""
+        if mine != number:
+            problem(f"scenes_written.bin, scene {i}: {mine} by the page and {number} in the list")
+            continue
+        d.met[test, number] += 1
+        if test is None or test.of not in ("counts", "slices"):
+            written = laid(d, scene)
+            read = sheet_fault(d, written)
+            if read != (0 if test is None or test.of == "sheet" else number):
+                problem(f"scenes_written.bin, scene {i}: reading the sheet gives {read} by the page")
+                continue
+            there = [p for p in d.saving.parts for n in range(scene.m if p.record == "Body" else scene.k) if any(p.lent(scene, n))]
+            d.met.update(p for p in there if number == (5 if p.idle else 0))
+        if sheet is not None:
+            if written != sheet:
+                at = next((n for n, (x, y) in enumerate(zip(written, sheet)) if x != y), min(len(written), len(sheet)))
+                problem(f"scenes_written.bin, scene {i}: the sheets differ from byte {at} on, of {scene.m} bodies and {scene.k} relations")
+                continue
+            longer += any(scene.length(s) > d.saving.needed(d, s, scene.m, scene.k) for s in d.saving.slices.values())
+            length += len(sheet)
+            at = d.read("Header", sheet, 0)["relations"]
+            laws.update(d.numbers["law"][d.read("Relation", sheet, at + d.sizes["Relation"] * j)["law"]] for j in range(scene.k))
+        numbers[number] += 1
+    scenes.whole(length)
+    if not longer:
+        problem("scenes_written.bin: no scene is lent in longer slices")
+    for law in d.counts:
+        if not laws[law]:
+            problem(f"scenes_written.bin: no sheet has the law {law}")
+    said = ", ".join(f"{n}: {numbers[n]}" for n in sorted(numbers))
+    print(f"written: {sum(numbers.values())} of {scenes.count} scenes as in scenes_written.bin, by number {said}; {length} bytes of {numbers[0]} sheets, {longer} of them lent in longer slices")
+    print("  relations of the sheets by law " + ", ".join(f"{law}: {laws[law]}" for law in d.counts))
+
+
 # ---- what the page names
 
 CITED = re.compile(r"((?:`[\w-]+`(?:, | and ))*`[\w-]+`) in `(crates/[\w/]+\.antt)`")
@@ -715,7 +947,7 @@ def main():
     path = pathlib.Path(sys.argv[1]) if len(sys.argv) == 2 else ROOT / "docs" / "DEFINITIONS.md"
     try:
         d = Definitions(path.read_text(encoding="utf-8"))
-        for compare in (compare_rows, compare_functions, compare_readings, compare_fields, compare_refused, compare_solved, compare_numbers, compare_names, compare_sketches):
+        for compare in (compare_rows, compare_functions, compare_readings, compare_fields, compare_refused, compare_solved, compare_written, compare_numbers, compare_names, compare_sketches):
             compare(d)
         for what in d.unmet():
             problem(f"met by nothing in the lists: {what}")

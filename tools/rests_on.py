@@ -21,6 +21,8 @@ CALLS = [
     ("sheet_snap", "sheet/src/calls.rt"),
     ("sheet_solve", "sheet/src/solving.rt"),
     ("sheet_dof", "sheet/src/freedoms.rt"),
+    ("sheet_write", "sheet/src/saving.rt"),
+    ("save", "saving/src/save.rt"),
     ("root", "arcs/src/root.rt"),
     ("sine", "arcs/src/arc.rt"),
     ("cosine", "arcs/src/arc.rt"),
