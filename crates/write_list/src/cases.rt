@@ -60,7 +60,7 @@ fn names(wrong: u64) -> u64 {
     counted(e, right(on_body(0x1_0003), 6))
 }
 
-// What a mate does not use is 0: the end radius, -0 not either, and the mirrored flag. A tangent keeps the end radius, a joint's byte the flag.
+// What a mate does not use is 0 bits: an end radius of -0 is refused by 5, and so is a mirrored flag. A tangent uses the end radius, and keeps -0.
 fn unused(wrong: u64) -> u64 {
     let ground = BodyRef::Ground;
     let zero = 0.0;
