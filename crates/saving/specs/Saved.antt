@@ -19,7 +19,7 @@ use Rattle.writing.specs.Writing.{SceneParts, BodyIs, RelIs, sheetBytes, bodyPa
 use Rattle.saving.specs.Saving.{bodyParts, relParts, sceneParts, SavedOnce}
 use Rattle.saving.specs.declared.save.Scene.{Scene}
 
--- ---- the bodies and relations of the scene; what is named past an array's end is no number of it and has no say
+-- ---- the bodies and relations of the scene; past the end of an array, where no count within its limit reaches, stands one that has no say
 
 abbrev noVec : Vec3
 noVec = record { x = nan; y = nan; z = nan }
