@@ -14,17 +14,17 @@ use borrow.Author.Tests.{leb-true, ltb-true, ltb-false, ne-eqb}
 use Rattle.format.specs.Format.{relStart}
 use Rattle.format.specs.Faults.{orElse, unless}
 use Rattle.format.proofs.RefusalLaws.{none-of, and-left, and-right, first, later}
-use Rattle.writing.specs.Bytes.{Put}
+use Rattle.writing.specs.Bytes.{part, Put}
 use Rattle.writing.specs.Writing.{AllBytes, AllWords, AllDoubles, SceneIs, OneSheet, sheetBytes, bodyPartsFault, relPartsFault, firstFault, countsFault, recordsFault, roomFault}
 use Rattle.writing.proofs.NumberLaws.{part-length}
 use Rattle.writing.proofs.SheetLaws.{counts-pass}
 use Rattle.writing.proofs.OneSheetLaws.{one-sheet}
-use Rattle.writing.specs.Lent.{lentPart, lentBody, lentRel, lentScene, lentFault, lentSceneFault, writeFault, WriteAnswer}
+use Rattle.writing.specs.Lent.{lentBody, lentRel, lentScene, lentFault, lentSceneFault, writeFault, WriteAnswer}
 
 -- ---- a part of what is lent
 
 -- the elements from o up to o + n
-pub part-is : {A : Type 0} (l : List A) (o n e : ℕ) → e ≡ o + n → take (e - o) (drop o l) ≡ lentPart l o n
+pub part-is : {A : Type 0} (l : List A) (o n e : ℕ) → e ≡ o + n → take (e - o) (drop o l) ≡ part l o n
 part-is l o n e h = let d : e - o ≡ n = omega arith in ap (λ (w : ℕ). take w (drop o l)) d
 
 -- ---- a record's own memory
@@ -65,15 +65,15 @@ room-enough m k room e = leb-true _ _ (passed (leb (relStart m k) room) 10 (omeg
 
 -- ---- the parts of what is lent are numbers of the machine
 
-part-all : {A : Type 0} (P : A → Type 0) (d : A) (l : List A) → P d → ((i : ℕ) → P (getD l i d)) → (o n i : ℕ) → P (getD (lentPart l o n) i d)
+part-all : {A : Type 0} (P : A → Type 0) (d : A) (l : List A) → P d → ((i : ℕ) → P (getD l i d)) → (o n i : ℕ) → P (getD (part l o n) i d)
 part-all P d l z h o n i = go (ltb i n) refl
   where
-    go : (t : Bool) → ltb i n ≡ t → P (getD (lentPart l o n) i d)
+    go : (t : Bool) → ltb i n ≡ t → P (getD (part l o n) i d)
     go true e = rw (getD-take n (drop o l) i d (ltb-true i n e), getD-drop o l i d) (h (o + i))
     go false e =
         let past : n ≤ i = ltb-false i n e in
-        let few : length (lentPart l o n) ≤ i = omega (arith, length-take n (drop o l), min-le-left n (length (drop o l))) in
-        rw (List·getD-eq-default (lentPart l o n) d few) z
+        let few : length (part l o n) ≤ i = omega (arith, length-take n (drop o l), min-le-left n (length (drop o l))) in
+        rw (List·getD-eq-default (part l o n) d few) z
 
 pub lent-is : (m k : ℕ) (bytes words : List ℕ) (numbers : List Float) → AllBytes bytes → AllWords words → AllDoubles numbers
     → Whole m k (length bytes) (length words) (length numbers) → SceneIs (lentScene m k bytes words numbers)

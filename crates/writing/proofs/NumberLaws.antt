@@ -14,16 +14,12 @@ use lib.Ieee.{Float, nan, binary64, isNan, fits, toBits, ofBits}
 use lib.Ieee.Bits.{ofBits-toBits, toBits-lt}
 use Rattle.records.specs.Record.{byteAt, u16At, u32At, u64At, doubleAt}
 use Rattle.format.proofs.FieldLaws.{bits-back}
-use Rattle.writing.specs.Bytes.{littleEndian, doubleBytes, joined, doublesBytes}
+use Rattle.writing.specs.Bytes.{part, littleEndian, doubleBytes, joined, doublesBytes}
 use Rattle.writing.specs.Writing.{doublesAt, AllBytes, AllDoubles}
 
 -- ---- parts of a list
 
 module _ {A : Type 0} where
-  -- the n elements from place o on
-  abbrev pub part : List A → ℕ → ℕ → List A
-  part s o n = take n (drop o s)
-
   pub part-in : (s a l c : List A) (o n : ℕ) → s ≡ a ++ (l ++ c) → length a ≡ o → length l ≡ n → part s o n ≡ l
   part-in s a l c o n e h k = rw (e, drop-at a (l ++ c) o h) (take-at l c n k)
 
@@ -65,7 +61,7 @@ valueOf (b ∷ l) = b + 256 * valueOf l
 pub little-length : (k n : ℕ) → length (littleEndian k n) ≡ k
 unfolding littleEndian
 little-length zero n = refl
-little-length (suc k) n = ap suc (little-length k (n / 256))
+little-length (suc k) n = ap suc (little-length k _)
 
 pub little-value : (k n : ℕ) → n < 256 ^ k → valueOf (littleEndian k n) ≡ n
 unfolding littleEndian valueOf
@@ -132,10 +128,6 @@ u64-value s o =
     omega (arith, value-none s (o + 8))
 
 -- ---- from the bytes to the number
-
--- a number's bytes in an appended list are the part there; part-in says so of any
-pub little-in : (s a c : List ℕ) (o k n : ℕ) → s ≡ a ++ (littleEndian k n ++ c) → length a ≡ o → part s o k ≡ littleEndian k n
-little-in s a c o k n e h = part-in s a (littleEndian k n) c o k e h (little-length k n)
 
 pub u16-part : (s : List ℕ) (o n : ℕ) → part s o 2 ≡ littleEndian 2 n → n < 0x1_0000 → u16At s o ≡ n
 u16-part s o n e h = u16-value s o ∙ ap valueOf e ∙ little-value 2 n h

@@ -17,9 +17,9 @@ use Rattle.records.specs.Limits.{within, withinV, THOUSAND, UNIT-LIMIT}
 use Rattle.format.specs.Faults.{bodyShape, bodyLimits, bodyFault, endShape, endLimits, thirdShape, relShape, relLimits, relFault}
 use Rattle.format.proofs.RefusalLaws.{and-left, and-right, body-tests, rel-tests}
 use Rattle.format.proofs.FieldLaws.{number}
-use Rattle.writing.specs.Bytes.{littleEndian, doublesBytes}
+use Rattle.writing.specs.Bytes.{part, littleEndian, doublesBytes}
 use Rattle.writing.specs.Writing.{BodyParts, RelParts, bodyBytes, endBytes, lawBytes, relBytes, doublesAt, bodyPartsAt, relPartsAt, AllBytes, AllWords, BodyIs, RelIs}
-use Rattle.writing.proofs.NumberLaws.{part, part-then, part-first, part-rest, part-length, part-one, part-get, little-length, u16-part, u16-again, doubles-length, doubles-in, doubles-part, doublesAt-length, doublesAt-all, AllNumbers, doubles-again}
+use Rattle.writing.proofs.NumberLaws.{part-then, part-first, part-rest, part-length, part-one, part-get, little-length, u16-part, u16-again, doubles-length, doubles-in, doubles-part, doublesAt-length, doublesAt-all, AllNumbers, doubles-again}
 
 -- ---- lists of known length
 

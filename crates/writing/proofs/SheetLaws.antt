@@ -16,9 +16,9 @@ use Rattle.records.specs.Record.{u16At, u32At}
 use Rattle.format.specs.Format.{bodiesOf, relationsOf, bodyStart, relStart}
 use Rattle.format.specs.Faults.{unless, headerZeros, headerCounts, headerOffsets, headerFault, bodiesFault, relsFault, sheetFault}
 use Rattle.format.proofs.RefusalLaws.{and-left, and-right, passes, header-passes, faultless}
-use Rattle.writing.specs.Bytes.{littleEndian, joined, doublesBytes}
+use Rattle.writing.specs.Bytes.{part, littleEndian, joined, doublesBytes}
 use Rattle.writing.specs.Writing.{BodyParts, RelParts, SceneParts, countsBytes, offsetsBytes, headerBytes, bodyBytes, endBytes, lawBytes, relBytes, sheetBytes, bodyPartsFault, relPartsFault, firstFault, countsFault, recordsFault, AllBytes, SceneIs}
-use Rattle.writing.proofs.NumberLaws.{part, part-then, little-length, joined-length, joined-parts, u16-part, u32-part, u32-value, u16-again, little-again}
+use Rattle.writing.proofs.NumberLaws.{part-then, little-length, joined-length, joined-parts, u16-part, u32-part, u32-value, u16-again, little-again}
 use Rattle.writing.proofs.RecordLaws.{body-length, rel-length}
 use Rattle.writing.proofs.LocalLaws.{Same, own-bytes, body-fault-same, rel-fault-same}
 

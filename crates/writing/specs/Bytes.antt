@@ -5,6 +5,10 @@ use mathlib.Core.List.{List, [], _∷_, _++_}
 use lib.ListN.{length, getD, take, drop}
 use lib.Ieee.{Float, nan, binary64, toBits}
 
+-- the n elements of a list from place o on
+abbrev pub part : {A : Type 0} → List A → ℕ → ℕ → List A
+part l o n = take n (drop o l)
+
 -- n in k bytes
 unfoldable pub littleEndian : ℕ → ℕ → List ℕ
 littleEndian zero n = []

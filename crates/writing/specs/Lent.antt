@@ -3,24 +3,21 @@ use Prim.Native.Nat.{ℕ, _+_, _*_}
 use mathlib.Core.Path.{_≡_}
 use mathlib.Core.Bool.{_&&_, cond}
 use mathlib.Core.List.{List, _++_}
-use lib.ListN.{length, take, drop}
+use lib.ListN.{length, drop}
 use lib.Dec.{eqb, leb}
 use lib.Ieee.{Float}
 use Rattle.format.specs.Format.{relStart}
 use Rattle.format.specs.Faults.{orElse, unless}
+use Rattle.writing.specs.Bytes.{part}
 use Rattle.writing.specs.Writing.{BodyParts, RelParts, SceneParts, sheetBytes, countsFault, recordsFault, roomFault, OneSheet}
-
--- the n elements from place o on
-abbrev pub lentPart : {A : Type 0} → List A → ℕ → ℕ → List A
-lentPart l o n = take n (drop o l)
 
 -- 2 bytes a body, then 9 a relation; 5 words a relation; 16 numbers a body, then 29 a relation
 abbrev pub lentBody : List ℕ → List Float → ℕ → BodyParts
-lentBody bytes numbers i = record { bytes = lentPart bytes (2 * i) 2; numbers = lentPart numbers (16 * i) 16 }
+lentBody bytes numbers i = record { bytes = part bytes (2 * i) 2; numbers = part numbers (16 * i) 16 }
 
 abbrev pub lentRel : ℕ → List ℕ → List ℕ → List Float → ℕ → RelParts
 lentRel m bytes words numbers j =
-    record { bytes = lentPart bytes (2 * m + 9 * j) 9; words = lentPart words (5 * j) 5; numbers = lentPart numbers (16 * m + 29 * j) 29 }
+    record { bytes = part bytes (2 * m + 9 * j) 9; words = part words (5 * j) 5; numbers = part numbers (16 * m + 29 * j) 29 }
 
 abbrev pub lentScene : ℕ → ℕ → List ℕ → List ℕ → List Float → SceneParts
 lentScene m k bytes words numbers = record { m = m; k = k; body = lentBody bytes numbers; rel = lentRel m bytes words numbers }
