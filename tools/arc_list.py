@@ -1,8 +1,9 @@
 #!/usr/bin/env python3
 """Writes the list that crates/arc_list replays:  python3 tools/arc_list.py > crates/arc_list/stdin
 
-Document 01's rule for sine, cosine and arctangent, written from its text alone: Python's floats are binary64, each operation rounded once, math.fmod is
-exact, and the coefficients are fractions rounded by Python. The arguments are fixed: chosen ones and a seeded random stream.
+Document 01's rule for sine, cosine and arctangent, and request 3/14's for long turns, written from their text alone: Python's floats are binary64, each operation
+rounded once, math.fmod is exact, whole turns are counted in fractions, and the coefficients are fractions rounded by Python. The arguments are fixed: chosen ones and a
+seeded random stream.
 """
 import math
 import random
@@ -43,6 +44,22 @@ def root_two_less_one():
 R = root_two_less_one()
 
 
+def circle():
+    """2π by Machin's formula, 8 (4 arctan 1/5 - arctan 1/239), as a fraction less than 2^-280 away."""
+    k = 300
+
+    def arctan(n):
+        return sum((-1) ** j * ((1 << k) // ((2 * j + 1) * n ** (2 * j + 1))) for j in range(80))
+
+    return Fraction(8 * (4 * arctan(5) - arctan(239)), 1 << k)
+
+
+# 2π cut to its first 33 significant bits (three of them stand before the point), and the double nearest the rest.
+T1 = float(Fraction(math.floor(circle() * 2**30), 2**30))
+T2 = nearest(circle() - Fraction(T1))
+TURN = Fraction(T1) + Fraction(T2)
+
+
 def polynomial(coefficients, z):
     value = coefficients[-1]
     for c in coefficients[-2::-1]:
@@ -50,10 +67,17 @@ def polynomial(coefficients, z):
     return value
 
 
+def reduced(t):
+    if 64 < t <= 2**20:
+        k = math.floor(Fraction(t) / TURN)
+        return (t - k * T1) - k * T2
+    return math.fmod(t, T)
+
+
 def sine_cosine(t):
     if not math.isfinite(t) or t < 0:
         return NAN, NAN
-    a = math.fmod(t, T)
+    a = reduced(t)
     q = sum(1 for edge in (E, 3 * E, 5 * E, 7 * E) if edge < a)
     b = a - q * H
     z = b * b
@@ -111,6 +135,22 @@ def angles(rng):
         yield any_double(rng)
 
 
+def long_angles(rng):
+    """For the range over 64 and up to 2^20: its ends, whole turns and boundaries of the quadrants with their neighbours, then all lengths and all exponents."""
+    for end in (64.0, 2.0**20):
+        yield from around(end)
+    chosen = [10, 11, 12, 100, 159, 160, 1000, 166885, 166886] + [2**n for n in range(4, 18)] + [2**n - 1 for n in range(4, 18)]
+    for k in chosen + [rng.randint(10, 166886) for _ in range(300)]:
+        yield from around(nearest(k * TURN), 2)
+    for k in chosen + [rng.randint(10, 166885) for _ in range(40)]:
+        for edge in (E, 3 * E, 5 * E, 7 * E):
+            yield from around(nearest(k * TURN + Fraction(edge)), 1)
+    for _ in range(500):
+        yield rng.uniform(64, 2**20)
+    for _ in range(500):
+        yield math.ldexp(rng.uniform(1, 2), rng.randint(6, 19))
+
+
 def sides(rng):
     special = [0.0, 5e-324, 2.2250738585072014e-308, 1e-300, 0.5, 1.0, E, 1e300, sys.float_info.max, INF]
     special += [-x for x in special] + [NAN]
@@ -132,10 +172,15 @@ def sides(rng):
 def main():
     rng = random.Random(1)
     out = sys.stdout.buffer
-    for t in angles(rng):
-        out.write(struct.pack("<4Q", 0, bits(t), *map(bits, sine_cosine(t))))
+
+    def sines(angles):
+        for t in angles:
+            out.write(struct.pack("<4Q", 0, bits(t), *map(bits, sine_cosine(t))))
+
+    sines(angles(rng))
     for y, x in sides(rng):
         out.write(struct.pack("<4Q", 1, bits(y), bits(x), bits(arctangent(y, x))))
+    sines(long_angles(rng))
 
 
 main()

@@ -1,5 +1,5 @@
 //! Root, sine, cosine and arctangent of the static library that `rt staticlib arcs` writes, which the oracle calls.
-//! Module `rule` is a reading of document 01's rule, written from document 01 alone; the library is compared with it.
+//! Module `rule` is a reading of document 01's rule and of request 3/14, written from documents 01 and 02 alone; the library is compared with it.
 
 pub mod rule {
     /// 2π, π, π/2 and π/4, by bits.
@@ -7,6 +7,9 @@ pub mod rule {
     pub const P: f64 = f64::from_bits(0x400921FB54442D18);
     pub const H: f64 = f64::from_bits(0x3FF921FB54442D18);
     pub const E: f64 = f64::from_bits(0x3FE921FB54442D18);
+    /// 2π cut to its first 33 significant bits, and the double nearest the rest, by bits.
+    pub const T1: f64 = f64::from_bits(0x401921FB54400000);
+    pub const T2: f64 = f64::from_bits(0x3DF0B4611A626331);
     /// The double nearest √2 − 1.
     pub const TURN: f64 = f64::from_bits(0x3FDA827999FCEF32);
 
@@ -35,12 +38,40 @@ pub mod rule {
         if i % 2 == 0 { 1.0 } else { -1.0 }
     }
 
+    /// Where request 3/14 holds: t over 64 and up to 2^20.
+    pub fn far(t: f64) -> bool {
+        64.0 < t && t <= 1048576.0
+    }
+
+    /// d·2^84: a whole number for T1, for T2 and for a double from 64 to 2^20.
+    fn whole(d: f64) -> u128 {
+        (d * (1u128 << 84) as f64) as u128
+    }
+
+    /// (T1 + T2)·2^84.
+    pub fn turn() -> u128 {
+        whole(T1) + whole(T2)
+    }
+
+    /// k, the greatest whole number with k·(T1 + T2) not above t.
+    pub fn turns(t: f64) -> u128 {
+        whole(t) / turn()
+    }
+
+    fn reduced(t: f64) -> f64 {
+        if !far(t) {
+            return t % T;
+        }
+        let k = turns(t) as f64;
+        (t - k * T1) - k * T2
+    }
+
     /// Sine and cosine of t.
     pub fn pair(t: f64) -> (f64, f64) {
         if !t.is_finite() || t < 0.0 {
             return (f64::NAN, f64::NAN);
         }
-        let a = t % T;
+        let a = reduced(t);
         let q = bounds().iter().filter(|bound| **bound < a).count();
         let b = a - q as f64 * H;
         let z = b * b;

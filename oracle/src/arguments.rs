@@ -1,10 +1,10 @@
 //! Arguments for the arcs and the root: every boundary first, then a spread by seed.
 
 use crate::rng::Rng;
-use arcs::rule::{E, H, P, T, TURN, bounds};
+use arcs::rule::{self, E, H, P, T, T1, TURN, bounds};
 
 /// d and the doubles around it, `reach` on each side.
-fn around(d: f64, reach: u64) -> impl Iterator<Item = f64> {
+pub fn around(d: f64, reach: u64) -> impl Iterator<Item = f64> {
     let bits = d.to_bits();
     (bits.saturating_sub(reach)..=bits + reach).map(f64::from_bits)
 }
@@ -16,13 +16,34 @@ pub fn special() -> Vec<f64> {
     out
 }
 
-/// Arguments of sine and cosine: the boundaries of the quadrants in several turns and their neighbours.
+/// The double nearest a + k·(T1 + T2), for a multiple a of 2^-84 below 8: a fraction, rounded once.
+fn after(k: u128, a: f64) -> f64 {
+    let unit = (1u128 << 84) as f64;
+    (k * rule::turn() + (a * unit) as u128) as f64 / unit
+}
+
+/// Every k of t over 64 and up to 2^20.
+const TURNS: std::ops::RangeInclusive<u128> = 10..=166886;
+
+/// The double nearest k·(T1 + T2), for each k.
+pub fn turn_edges() -> impl Iterator<Item = f64> {
+    TURNS.map(|k| after(k, 0.0))
+}
+
+/// Arguments of sine and cosine: the ends of the range over 64 and up to 2^20; for all its turns k·(T1 + T2), and k·T1 alone; the boundaries of the
+/// quadrants in several turns; each with its neighbours.
 pub fn angles() -> Vec<f64> {
     let mut out = special();
+    out.extend([64.0, 1048576.0].into_iter().flat_map(|end| around(end, 3)).flat_map(|t| [t, -t]));
+    out.extend(turn_edges().flat_map(|edge| around(edge, 2)));
+    out.extend(TURNS.flat_map(|k| around(k as f64 * T1, 1)));
     for bound in bounds().into_iter().chain([H, P, 3.0 * H, T]) {
         out.extend(around(bound, 3));
         for turns in [1.0, 2.0, 9.0, 10.0, 159.0, 166886.0] {
             out.extend(around(bound + turns * T, 2));
+        }
+        for k in [10, 11, 12, 100, 159, 160, 1000, 16384, 65536, 131072, 166884, 166885] {
+            out.extend(around(after(k, bound), 2));
         }
     }
     for e in [-1000, -500, -100, -60, -54, -53, -52, -40, -30, -27, -26, -10, -3, -1, 0, 1, 2, 5, 6, 10, 20, 30, 52, 53, 54, 100, 500, 1000, 1023] {
@@ -60,6 +81,17 @@ pub fn angle(rng: &mut Rng) -> f64 {
         1 => rng.range(0.0, 1e6),
         2 => (rng.below(1000) as f64 * E) * (1.0 + rng.range(-1e-15, 1e-15)),
         _ => rng.range(0.0, 7.0),
+    }
+}
+
+/// An argument over 64 and up to 2^20 by chance: all lengths alike, all exponents alike, near a whole turn, or about a boundary of the quadrants.
+pub fn long_angle(rng: &mut Rng) -> f64 {
+    let k = 11 + rng.below(166875) as u128;
+    match rng.below(4) {
+        0 => rng.range(64.0, 1048576.0),
+        1 => f64::from_bits(1048576f64.to_bits() - rng.next() % (14 << 52)),
+        2 => after(k, 0.0) + rng.range(-2e-4, 2e-4),
+        _ => f64::from_bits(after(k, E * rng.below(9) as f64).to_bits() + rng.below(5) as u64 - 2),
     }
 }
 

@@ -7,30 +7,27 @@ use crate::{port, whole, writing};
 
 pub fn run() -> bool {
     let mut rng = Rng(1);
-    let angles: Vec<f64> = (0..1 << 16).map(|_| rng.range(0.0, 7.0)).collect();
-    let lengths: Vec<f64> = (0..1 << 16).map(|_| rng.range(0.0, 1e6)).collect();
-    let other: Vec<f64> = (0..1 << 16).map(|_| rng.range(-2.0, 2.0)).collect();
-    let angle = |f: &dyn Fn(f64) -> f64| nanoseconds(&angles, &other, &|a, _| f(a));
+    let mut draw = |from: &dyn Fn(&mut Rng) -> f64| -> Vec<f64> { (0..1 << 16).map(|_| from(&mut rng)).collect() };
+    let angles = draw(&|rng| rng.range(0.0, 7.0));
+    let lengths = draw(&|rng| rng.range(0.0, 1e6));
+    let other = draw(&|rng| rng.range(-2.0, 2.0));
+    let far = draw(&|rng| rng.range(64.0, 1048576.0));
+    let spread = draw(&|rng| f64::from_bits(1048576f64.to_bits() - rng.next() % (14 << 52)));
+    let row = |name: &str, a: f64, theirs: &str, b: f64| println!("{name:34} {a:6.1} ns   {theirs:8} {b:6.1} ns   ratio {:.2}", a / b);
     let length = |f: &dyn Fn(f64) -> f64| nanoseconds(&lengths, &other, &|a, _| f(a));
     let both = |f: &dyn Fn(f64, f64) -> f64| nanoseconds(&other, &angles, f);
-    let rows = [
-        ("root", length(&arcs::root), "sqrt", length(&f64::sqrt)),
-        ("sine", angle(&arcs::sine), "sin", angle(&f64::sin)),
-        ("cosine", angle(&arcs::cosine), "cos", angle(&f64::cos)),
-        (
-            "sine and cosine",
-            angle(&|t| arcs::sine(t) + arcs::cosine(t)),
-            "sin_cos",
-            angle(&|t| {
-                let (s, c) = t.sin_cos();
-                s + c
-            }),
-        ),
-        ("arctangent", both(&arcs::arctangent), "atan2", both(&f64::atan2)),
-    ];
-    for (ours, a, theirs, b) in rows {
-        println!("{ours:16} {a:6.1} ns   {theirs:8} {b:6.1} ns   ratio {:.2}", a / b);
+    row("root", length(&arcs::root), "sqrt", length(&f64::sqrt));
+    for (of, angles) in [("0 to 7", &angles), ("64 to 2^20", &far), ("64 to 2^20 by exponent", &spread)] {
+        let angle = |f: &dyn Fn(f64) -> f64| nanoseconds(angles, &other, &|a, _| f(a));
+        row(&format!("sine, {of}"), angle(&arcs::sine), "sin", angle(&f64::sin));
+        row(&format!("cosine, {of}"), angle(&arcs::cosine), "cos", angle(&f64::cos));
+        let pair = |t: f64| {
+            let (s, c) = t.sin_cos();
+            s + c
+        };
+        row(&format!("both, {of}"), angle(&|t| arcs::sine(t) + arcs::cosine(t)), "sin_cos", angle(&pair));
     }
+    row("arctangent", both(&arcs::arctangent), "atan2", both(&f64::atan2));
     true
 }
 

@@ -119,13 +119,18 @@ impl Tally {
 pub fn arcs(n: usize) -> bool {
     let mut rng = Rng(n as u64);
     let (mut sine, mut cosine, mut arctangent, mut root) = (Tally::new("sine"), Tally::new("cosine"), Tally::new("arctangent"), Tally::new("root"));
+    let mut far = Tally::new("of these, sine and cosine of t over 64 and up to 2^20");
     let mut one = |t: f64| {
-        let (s, c) = (arcs::sine(t), arcs::cosine(t));
-        sine.case(bits(s) == bits(rule::sine(t)), || format!("of {} {} for {}", hex(t), hex(s), hex(rule::sine(t))));
-        cosine.case(bits(c) == bits(rule::cosine(t)), || format!("of {} {} for {}", hex(t), hex(c), hex(rule::cosine(t))));
+        let (s, c, (a, b)) = (arcs::sine(t), arcs::cosine(t), rule::pair(t));
+        sine.case(bits(s) == bits(a), || format!("of {} {} for {}", hex(t), hex(s), hex(a)));
+        cosine.case(bits(c) == bits(b), || format!("of {} {} for {}", hex(t), hex(c), hex(b)));
+        if rule::far(t) {
+            far.case(bits(s) == bits(a) && bits(c) == bits(b), || hex(t));
+        }
     };
     args::angles().into_iter().for_each(&mut one);
     (0..n).for_each(|_| one(args::angle(&mut rng)));
+    (0..n / 2).for_each(|_| one(args::long_angle(&mut rng)));
     let mut one = |(y, x): (f64, f64)| {
         let (a, b) = (arcs::arctangent(y, x), rule::arctangent(y, x));
         arctangent.case(bits(a) == bits(b), || format!("of {} {} {} for {}", hex(y), hex(x), hex(a), hex(b)));
@@ -143,7 +148,12 @@ pub fn arcs(n: usize) -> bool {
         (0..20_000).for_each(|i| one(f64::from_bits(near.to_bits() - 10_000 + i)));
     }
     (0..n / 10).for_each(|_| one(1.0 + rng.range(-1.1e-8, 1.1e-8)));
-    [sine, cosine, arctangent, root].iter().fold(true, |good, tally| tally.done() & good)
+    let good = [sine, cosine, far, arctangent, root].iter().fold(true, |good, tally| tally.done() & good);
+    // The edges of turns must tell k from the floor of t/T in doubles.
+    let other = |t: f64| rule::far(t) && (t / rule::T).floor() != rule::turns(t) as f64;
+    let told = args::turn_edges().filter(|edge| args::around(*edge, 2).any(other)).count();
+    println!("edges of turns: {}, {told} of them with another k by the floor of t/T in doubles", args::turn_edges().count());
+    good && told > 0
 }
 
 /// Keeps what was given to the two sides that differ, and says where.

@@ -53,7 +53,7 @@ oracle report < FILE          what the program report prints
 oracle gen SEED N DIR         N valid sheets, written as DIR/NNNN.sheet, and what they cover
 oracle cover SEED N           all calls on N valid and N damaged sheets and the limits: counts, branches, max
 oracle examples               document 01's own examples, asked of the oracle
-oracle arcs N                 the linked root, sine, cosine and arctangent on about 4N arguments
+oracle arcs N                 the linked root, sine, cosine and arctangent at their edges and on about 5N arguments
 oracle bench                  time per call of the linked arcs and root beside Rust's own
 oracle bench FILE..           time of the linked `solve` and `dof` on these sheets beside the Rust's
 oracle sheet SEED N           the linked sheet library against the Rust on N valid and N damaged sheets

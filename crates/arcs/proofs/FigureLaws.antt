@@ -17,7 +17,7 @@ use Rattle.numbers.specs.Near.{S, exactly, addBound, mulBound}
 use Rattle.numbers.specs.Bound.{bounds, constBound}
 use Rattle.numbers.proofs.BoundLaws.{small-of-le}
 use Rattle.numbers.proofs.DiffersLaws.{near-differs}
-use Rattle.arcs.specs.Arcs.{fromTurn, ratio}
+use Rattle.arcs.specs.Arcs.{reduced, fromTurn, ratio}
 use Rattle.arcs.specs.Figures.{Within-52, squareOf, Series-near}
 use Rattle.arcs.proofs.Magnitudes.{AtMostOf}
 use Rattle.arcs.proofs.Range.{turn-square, ratio-small}
@@ -52,7 +52,7 @@ cosine-near t f s = figure cosineCoefs 5 (negsuc 2) (5 * 2 ^ 77) tt tt (squareOf
 
 -- t = -0
 pub minus-zero-square : squareOf (neg zero64) ≡ zero64
-unfolding ofBits fromTurn mul sub rem ofInt lt
+unfolding ofBits reduced fromTurn mul sub rem ofInt lt
 minus-zero-square = refl
 
 pub sine-near-minus-zero : Within-52 sineCoefs (squareOf (neg zero64))

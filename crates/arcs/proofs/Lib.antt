@@ -1,7 +1,16 @@
+pub mod AlternatingLaws
+pub mod PiLaws
 pub mod NearestLaws
 pub mod Magnitudes
 pub mod Range
 pub mod FigureLaws
+pub mod Values
+pub mod FarLaws
+pub mod TurnLaws
+pub mod LeftLaws
+pub mod FarRange
+pub mod InTurn
+pub mod TurnsNear
 pub mod RootNearest
 pub mod RootLaws
 pub mod NanQuotient

@@ -26,7 +26,7 @@ either true y c t = inl tt
 either false true c t = inr tt
 either false false c t = absurd t
 
-le-says : (a b : ℕ) (c : Bool) → T (ltb a b || (eqb a b && c)) → a ≤ b
+pub le-says : (a b : ℕ) (c : Bool) → T (ltb a b || (eqb a b && c)) → a ≤ b
 le-says a b c t = ⊎-elim (λ l. let h = ltb→lt a b l in omega arith) (λ q. let h = eqb→eq a b q in omega arith) (either (ltb a b) (eqb a b) c t)
 
 module _ (p r : ℕ) where

@@ -1,9 +1,9 @@
 -- Where the arguments of the polynomials lie. b is at most 101/128 in magnitude and z at most 5/8 for every finite t without the sign bit: the count q puts a
 -- between two odd multiples of E, 884279719003555 / 2 ^ 50, whose middle is q * H. v * v is at most 3/16 for every ratio u from 0 to 1. Assumes nothing.
-use Prim.Native.Nat.{ℕ, suc, _+_, _-_, _*_, _%_, _≤_, _<_}
+use Prim.Native.Nat.{ℕ, _+_, _-_, _*_, _%_, _≤_, _<_}
 use native.Mathlib.Nat.{mod-lt, mul-pos, le-refl, zero-mul}
 use native.Mathlib.Omega.{arith}
-use mathlib.Core.Path.{_≡_, refl, ap}
+use mathlib.Core.Path.{_≡_, refl, sym, subst}
 use mathlib.Core.Bool.{Bool, true, false, cond, true≢false, false≢true}
 use lib.IntN.{ℤ, pos, negsuc}
 use lib.Dec.{T, ltb}
@@ -11,8 +11,9 @@ use lib.Ieee.{Float, nan, inf, fin, binary64, up, down, round, rem, sum, add, mu
 use lib.Ieee.Fits.{up-pos, down-pos}
 use borrow.Author.Tests.{lt-ltb, le-ltb, ltb-true, ltb-false, eq-eqb, ne-eqb}
 use Rattle.numbers.specs.Double.{zero64, isFinite, negative}
-use Rattle.arcs.specs.Arcs.{tau, halfPi, rootTwoLess, ratio, quarters, passed, fromTurn}
+use Rattle.arcs.specs.Arcs.{tau, halfPi, rootTwoLess, ratio, turns, far, lessTurns, reduced, quarters, passed, fromTurn}
 use Rattle.arcs.specs.Figures.{folded}
+use Rattle.arcs.proofs.FarRange.{far-range}
 use Rattle.arcs.proofs.Magnitudes.{AtMostOf, round-at-most, of-round, sub-at-most, square-at-most, round-at-least, div-at-most}
 
 module _ (m : ℕ) (e : ℤ) where
@@ -42,7 +43,7 @@ module _ (m : ℕ) (e : ℤ) where
   unfolding fromTurn round
   near-turn q n d hq hk l k = rw (hq, hk) (sub-at-most 101 128 m n e d 101 (negsuc 6) (omega arith) l k refl (le-refl _))
 
-  turn-small : m * up e * 140737488355328 ≤ 884279719003555 * down e → AtMostOf 101 128 (fromTurn (fin false m e))
+  turn-small : m * up e * 1125899906842624 ≤ 7958517471031995 * down e → AtMostOf 101 128 (fromTurn (fin false m e))
   unfolding mul ofInt ofBits
   turn-small top = seven (edge 6189958033024885) refl
     where
@@ -75,21 +76,36 @@ module _ (m : ℕ) (e : ℤ) where
           near-turn 4 884279719003555 (negsuc 46) (quarters-is true true true true (yes 884279719003555 (omega arith)) (yes 2652839157010665 (omega arith)) (yes 4421398595017775 (omega arith)) h) refl (omega arith) (omega arith)
       seven false h = five (edge 4421398595017775) refl (above 6189958033024885 h)
 
--- b of a finite t without the sign bit
-pub turn-at-most : (t : Float) → isFinite t ≡ true → negative t ≡ false → AtMostOf 101 128 (fromTurn (rem binary64 t tau))
-unfolding isFinite negative rem ofBits round
-turn-at-most nan h s = absurd (false≢true h)
-turn-at-most (inf u) h s = absurd (false≢true h)
-turn-at-most (fin true m e) h s = absurd (true≢false s)
-turn-at-most (fin false m e) h s =
-    let x = m * up e * 140737488355328 % (884279719003555 * down e) in
-    let D = down-pos e in
-    let l : x < 884279719003555 * down e = mod-lt (m * up e * 140737488355328) (omega arith) in
-    of-round 884279719003555 140737488355328 binary64 x (down e * 140737488355328) (λ a. AtMostOf 101 128 (fromTurn a)) turn-small
-    (round-at-most 884279719003555 140737488355328 binary64 false x (down e * 140737488355328) 884279719003555 (negsuc 46) (omega arith) (omega arith) (omega arith) refl (le-refl _))
+-- T is 8E, and 7 is below 9E
+within : (m : ℕ) (e : ℤ) → m * up e * 140737488355328 ≤ 884279719003555 * down e → m * up e * 1125899906842624 ≤ 7958517471031995 * down e
+within m e h = omega arith
+
+under-nine : (m : ℕ) (e : ℤ) → m * up e * 1 ≤ 7 * down e → m * up e * 1125899906842624 ≤ 7958517471031995 * down e
+under-nine m e h = omega arith
+
+-- a of a finite t without the sign bit is without it too, and at most 9E
+pub of-reduced : (P : Float → Type 0) → ((m : ℕ) (e : ℤ) → m * up e * 1125899906842624 ≤ 7958517471031995 * down e → P (fin false m e)) → (t : Float) → isFinite t ≡ true → negative t ≡ false → P (reduced t)
+unfolding reduced isFinite negative rem ofBits round
+of-reduced P g nan h s = absurd (false≢true h)
+of-reduced P g (inf u) h s = absurd (false≢true h)
+of-reduced P g (fin true m e) h s = absurd (true≢false s)
+of-reduced P g (fin false m e) h s = go (far (fin false m e)) refl
+  where
+    go : (b : Bool) → far (fin false m e) ≡ b → P (cond b (lessTurns (fin false m e) (turns (fin false m e))) (rem binary64 (fin false m e) tau))
+    go true f = far-range P (λ n d k. g n d (under-nine n d k)) (fin false m e) (subst T (sym f) tt)
+    go false f =
+        let x = m * up e * 140737488355328 % (884279719003555 * down e) in
+        let D = down-pos e in
+        let l : x < 884279719003555 * down e = mod-lt (m * up e * 140737488355328) (omega arith) in
+        of-round 884279719003555 140737488355328 binary64 x (down e * 140737488355328) P (λ n d k. g n d (within n d k))
+        (round-at-most 884279719003555 140737488355328 binary64 false x (down e * 140737488355328) 884279719003555 (negsuc 46) (omega arith) (omega arith) (omega arith) refl (le-refl _))
+
+-- b
+pub turn-at-most : (t : Float) → isFinite t ≡ true → negative t ≡ false → AtMostOf 101 128 (fromTurn (reduced t))
+turn-at-most = of-reduced (λ a. AtMostOf 101 128 (fromTurn a)) turn-small
 
 -- z
-pub turn-square : (t : Float) → isFinite t ≡ true → negative t ≡ false → (let b = fromTurn (rem binary64 t tau) in AtMostOf 5 8 (mul binary64 b b))
+pub turn-square : (t : Float) → isFinite t ≡ true → negative t ≡ false → (let b = fromTurn (reduced t) in AtMostOf 5 8 (mul binary64 b b))
 unfolding round
 turn-square t h s = square-at-most 101 128 5 8 _ 5 (negsuc 2) (omega arith) (omega arith) (omega arith) refl (le-refl _) (turn-at-most t h s)
 

@@ -1,9 +1,11 @@
 -- Sine and cosine of t ≥ 0 and the arctangent of (y, x), operation by operation, each rounded once. Document 01, "The train of files", item 1, whose letters
--- T, P, H, E, a, q, b, z, s, c, u, v these are. The root stands in Root.antt. Definitions only.
-use Prim.Native.Nat.{ℕ, zero, suc, _+_}
-use mathlib.Core.Bool.{Bool, true, false, not, _&&_, cond}
+-- T, P, H, E, a, q, b, z, s, c, u, v these are, and for t over 64 and up to 2 ^ 20 document 02, 3/14, whose letters T1, T2, k these are. The root stands in Root.antt.
+-- Definitions only.
+use Prim.Native.Nat.{ℕ, zero, suc, _+_, _*_, _/_}
+use mathlib.Core.Bool.{Bool, not, _&&_, cond}
 use lib.IntN.{pos}
-use lib.Ieee.{Float, nan, binary64, add, sub, mul, div, rem, neg, lt, eq, ofInt, ofBits}
+use lib.Ieee.{Float, nan, binary64, add, sub, mul, div, rem, neg, lt, le, eq, ofInt, ofBits}
+use lib.Ieee.Positive.{num, den}
 use Rattle.numbers.specs.Double.{zero64, one64, negative, isFinite, abs}
 use Rattle.numbers.specs.Ops.{doubles}
 use Rattle.numbers.specs.Horner.{horner}
@@ -33,9 +35,42 @@ five = mul binary64 (ofBits binary64 0x4014_0000_0000_0000) quarterPi
 abbrev pub seven : Float
 seven = mul binary64 (ofBits binary64 0x401C_0000_0000_0000) quarterPi
 
+-- T1 and T2: 2π cut to its first 33 binary digits, and the double nearest the rest
+abbrev pub tau1 : Float
+tau1 = ofBits binary64 0x4019_21FB_5440_0000
+
+abbrev pub tau2 : Float
+tau2 = ofBits binary64 0x3DF0_B461_1A62_6331
+
 -- the double nearest √2 - 1
 abbrev pub rootTwoLess : Float
 rootTwoLess = ofBits binary64 0x3FDA_8279_99FC_EF32
+
+-- T1 + T2, exactly: the fraction turnNum / turnDen
+abbrev pub turnNum : ℕ
+turnNum = num tau1 * den tau2 + num tau2 * den tau1
+
+abbrev pub turnDen : ℕ
+turnDen = den tau1 * den tau2
+
+-- k: how many times T1 + T2 goes into t, in fractions. `Greatest` of Turns.antt says it as document 02 does.
+unfoldable pub turns : Float → ℕ
+turns t = num t * turnDen / (turnNum * den t)
+
+-- over 64 and up to 2 ^ 20
+unfoldable pub far : Float → Bool
+far t = lt (ofBits binary64 0x4050_0000_0000_0000) t && le t (ofBits binary64 0x4130_0000_0000_0000)
+
+-- t less k turns
+unfoldable pub lessTurns : Float → ℕ → Float
+lessTurns t k =
+    let n = ofInt binary64 (pos k) in
+    sub binary64 (sub binary64 t (mul binary64 n tau1)) (mul binary64 n tau2)
+
+-- a
+unfoldable pub reduced : Float → Float
+unfolding lessTurns turns far
+reduced t = cond (far t) (lessTurns t (turns t)) (rem binary64 t tau)
 
 -- 1 where the edge lies below a, else 0
 unfoldable pub passed : Float → Float → ℕ
@@ -64,9 +99,9 @@ fromTurn a = sub binary64 a (mul binary64 (ofInt binary64 (pos (quarters a))) ha
 
 -- the pair of a finite t ≥ 0
 unfoldable pub sineCosineOf : Float → SineCosine
-unfolding fromTurn
+unfolding fromTurn reduced
 sineCosineOf t =
-    let a = rem binary64 t tau in
+    let a = reduced t in
     let b = fromTurn a in
     let z = mul binary64 b b in
     turned (quarters a) (mul binary64 b (horner doubles sineCoefs z)) (horner doubles cosineCoefs z)

@@ -5,14 +5,14 @@ use Prim.Native.Nat.{_^_}
 use mathlib.Core.Path.{_≡_}
 use mathlib.Core.Bool.{true, false}
 use mathlib.Core.List.{List, map}
-use lib.Ieee.{Float, binary64, rem, add, sub, mul, div, lt}
+use lib.Ieee.{Float, binary64, add, sub, mul, div, lt}
 use Rattle.numbers.specs.Frac.{fracOf}
 use Rattle.numbers.specs.Double.{one64}
 use Rattle.numbers.specs.Ops.{doubles, fractions}
 use Rattle.numbers.specs.Horner.{horner}
 use Rattle.numbers.specs.Differs.{Differs-by-at-most}
 use Rattle.arcs.specs.Coefs.{arctangentCoefs}
-use Rattle.arcs.specs.Arcs.{tau, rootTwoLess, fromTurn}
+use Rattle.arcs.specs.Arcs.{rootTwoLess, reduced, fromTurn}
 
 -- the polynomial on doubles lies within 2 ^ -52 of the polynomial on fractions
 abbrev pub Within-52 : List Float → Float → Type 0
@@ -20,7 +20,7 @@ Within-52 cs z = Differs-by-at-most (2 ^ 52) (horner doubles cs z) (horner fract
 
 -- z of a finite t without the sign bit
 abbrev pub squareOf : Float → Float
-squareOf t = let b = fromTurn (rem binary64 t tau) in mul binary64 b b
+squareOf t = let b = fromTurn (reduced t) in mul binary64 b b
 
 -- the arctangent's v: u itself up to √2 - 1, and (u - 1) / (u + 1) above
 abbrev pub folded : Float → Float

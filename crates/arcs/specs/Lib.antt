@@ -1,5 +1,8 @@
 pub mod Coefs
 pub mod Arcs
+pub mod Pi
+pub mod Turns
+pub mod TurnSteps
 pub mod Nearest
 pub mod Figures
 pub mod Root

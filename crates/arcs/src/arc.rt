@@ -1,12 +1,12 @@
 // Sine, cosine and arctangent, operation by operation as specs/Arcs.antt defines them.
 
 use crate::horner::horner;
+use crate::turns::less_turns;
 use numbers::is_finite;
 use numbers::negative;
 ghost use mathlib.Core.Path.{_≡_};
 ghost use Prim.Native.Nat.{_≤_};
 ghost use mathlib.Core.Bool.{cond};
-ghost use lib.Ieee.{binary64, rem};
 ghost use Rattle.numbers.specs.Double.{abs};
 ghost use Rattle.arcs.specs.Arcs as spec;
 
@@ -93,24 +93,33 @@ fn quarters(a: f64) -> u32
     passed(E, a) + passed(3.0 * E, a) + passed(5.0 * E, a) + passed(7.0 * E, a)
 }
 
-// Sine and cosine after q turns of π/2, looked up: a branch would be guessed wrong as often as not.
+// Sine and cosine after q turns of π/2, looked up: a branch would be guessed wrong as often as not. Each has a list of its own: a pair read at once across two entries that were just written waits for
+// both.
 fn turned(q: u32, s: f64, c: f64) -> SineCosine
     requires { ⌜ q ≤ 4 ⌝ }
     ensures { λ r. ⌜ r ≡ spec.turned q s c ⌝ }
 {
-    let by_turn = [s, c, -s, -c, s, c];
+    let sines = [s, c, -s, -c, s];
+    let cosines = [c, -s, -c, s, c];
     let i = q as usize;
     SineCosine {
-        sine: by_turn[i],
-        cosine: by_turn[i + 1],
+        sine: sines[i],
+        cosine: cosines[i],
     }
 }
 
-// The remainder by T. Up to T it is t itself, and the division is left out.
+// What is left of t after its turns: over 64 and up to 2^20 by T1 and T2, else the remainder by T. Up to T that is t itself, and the division is left out.
 fn reduced(t: f64) -> f64
-    ensures { λ r. ⌜ r ≡ rem binary64 t spec.tau ⌝ }
+    ensures { λ r. ⌜ r ≡ spec.reduced t ⌝ }
 {
-    if 0.0 <= t && t < T { t } else { t % T }
+    if 0.0 <= t && t < T {
+        return t;
+    }
+    if 64.0 < t && t <= 1048576.0 {
+        less_turns(t)
+    } else {
+        t % T
+    }
 }
 
 // Sine and cosine of a finite t ≥ 0.

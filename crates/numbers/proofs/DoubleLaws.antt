@@ -52,7 +52,7 @@ units-number f s q k = cond-number (ltb (q * 2 ^ k) (2 ^ (low f + suc (emax f)))
 pub round-number : (f : Format) (s : Bool) (n d : ℕ) → isNan (round f s n d) ≡ false
 round-number f s n d = rw (round-is f s n d, units-number)
 
-sum-number : (f : Format) (s : Bool) (a : ℕ) (t : Bool) (b c : ℕ) → isNan (sum f s a t b c) ≡ false
+pub sum-number : (f : Format) (s : Bool) (a : ℕ) (t : Bool) (b c : ℕ) → isNan (sum f s a t b c) ≡ false
 unfolding sum
 sum-number f s a t b c =
     cond-number (Bool·beq s t) (round f s (a + b) c) (cond (ltb a b) (round f t (b - a) c) (round f (s && ltb b a) (a - b) c)) (round-number f s (a + b) c)

@@ -94,8 +94,8 @@ module _ (x : Float) (f : T (fits binary64 x)) (p : T (positive x)) where
   pub field-finite : field (toBits binary64 x) < 2047
   field-finite = bits-finite (toBits binary64 x) (subst (λ (v : Float). T (positive v)) (sym (ofBits-toBits binary64 x f)) p)
 
-  value : HasValue x false (significand (toBits binary64 x) * 2 ^ exponent (toBits binary64 x)) (2 ^ 1074)
-  value =
+  pub by-bits : HasValue x false (significand (toBits binary64 x) * 2 ^ exponent (toBits binary64 x)) (2 ^ 1074)
+  by-bits =
       let b = toBits binary64 x in
       unsigned x (leb (2 ^ 63) b) (significand b * 2 ^ exponent b) (2 ^ 1074) p
       (subst (λ (v : Float). HasValue v (leb (2 ^ 63) b) (significand b * 2 ^ exponent b) (2 ^ 1074)) (ofBits-toBits binary64 x f) (bits-value b field-finite))
@@ -103,12 +103,12 @@ module _ (x : Float) (f : T (fits binary64 x)) (p : T (positive x)) where
   pub significand-pos : 0 < significand (toBits binary64 x)
   significand-pos =
       let b = toBits binary64 x in
-      first-pos (significand b) (2 ^ exponent b) (value-pos x (significand b * 2 ^ exponent b) (2 ^ 1074) p (pow-pos 1074) value)
+      first-pos (significand b) (2 ^ exponent b) (value-pos x (significand b * 2 ^ exponent b) (2 ^ 1074) p (pow-pos 1074) by-bits)
 
   pub radicand : num x * (2 ^ 1074 * 2 ^ 1074) ≡ significand (toBits binary64 x) * 2 ^ (exponent (toBits binary64 x) + 1074) * den x
   radicand =
       let b = toBits binary64 x in
-      doubled (num x) (significand b) (exponent b) (den x) 1074 (value→cross x (significand b * 2 ^ exponent b) (2 ^ 1074) value)
+      doubled (num x) (significand b) (exponent b) (den x) 1074 (value→cross x (significand b * 2 ^ exponent b) (2 ^ 1074) by-bits)
 
 -- ---- the bits k * 2 ^ 52 + q, for a q of 53 digits or 2 ^ 53, are those of q * 2 ^ k times 2 ^ -1074
 

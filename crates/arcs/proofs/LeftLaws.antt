@@ -1,0 +1,136 @@
+-- What is left of an angle after k turns. k * T1 is exact, and so is what is left after it where that is below 8; what is left from 2 ^ -13 up to T1 shows that k is the number of turns.
+-- Assumes nothing.
+use Prim.Native.Nat.{ℕ, _+_, _-_, _*_, _^_, _≤_, _<_}
+use native.Mathlib.Nat.{lt-irrefl, le-of-suc-le-suc, lt-of-lt-of-le, lt-of-not-le, mul-assoc, mul-pos, sub-add-cancel}
+use native.Mathlib.Omega.{arith}
+use mathlib.Core.Path.{_≡_, refl, sym, ap, _∙_, subst}
+use mathlib.Core.Bool.{Bool, true, false, cond, true≢false}
+use lib.IntN.{ℤ, pos, negsuc}
+use lib.Dec.{T, ltb, eqb, eqb→eq}
+use lib.Pow.{pow-pos, pow-add, pow-mono, shl-lt}
+use lib.Ieee.{Float, nan, inf, fin, binary64, up, down, odd, units, round, eq, sub, mul, lt, le, ofInt, ofBits}
+use lib.Ieee.Fits.{up-pos, down-pos, and-r, round-is}
+use lib.Ieee.Exact.{HasValue, odd-sign, round-exact}
+use lib.Ieee.Back.{round-whole}
+use lib.Ieee.Order.{round-mono}
+use lib.Ieee.Positive.{value→cross}
+use Rattle.arcs.specs.Arcs.{tau1, tau2, turns}
+use Rattle.arcs.specs.TurnSteps.{firstPart, secondPart, turn}
+use Rattle.arcs.proofs.TurnLaws.{turns-is}
+use Rattle.arcs.proofs.Values.{rescaled, mul-values, sub-level, sub-values-under, le-values, lt-values}
+
+tau1-value : HasValue tau1 false firstPart (2 ^ 30)
+unfolding ofBits
+tau1-value = (refl, refl)
+
+tau2-value : HasValue tau2 false secondPart (2 ^ 84)
+unfolding ofBits
+tau2-value = (refl, refl)
+
+-- a whole number of at most 53 digits, over a power of two, is not rounded
+exact-at : (q l : ℕ) → q < 2 ^ 53 → l ≤ 1074 → HasValue (round binary64 false q (2 ^ l)) false q (2 ^ l)
+exact-at q l h L =
+    round-exact binary64 false q (2 ^ l) q (1074 - l) (pow-pos l) h (lt-of-lt-of-le (shl-lt 53 (1074 - l) h) (pow-mono {i = 53 + (1074 - l)} {j = 2098} (omega arith)))
+    (ap (λ (x : ℕ). q * 2 ^ x) (sym (sub-add-cancel L)) ∙ ap (λ (x : ℕ). q * x) (pow-add 2 (1074 - l) l) ∙ sym (mul-assoc q (2 ^ (1074 - l)) (2 ^ l)))
+
+-- ---- two orders that no number meets
+abbrev least : Float
+least = fin false 1 (negsuc 12)
+
+abbrev eight : Float
+eight = fin false 1 (pos 3)
+
+-- above 0 and with the sign
+not-under : (n : ℕ) (d : ℤ) (m : ℕ) (e : ℤ) → 0 < n → T (le (fin false n d) (fin true m e)) → ⊥
+unfolding le lt eq
+not-under n d m e N h =
+    let a = n * up d * down e in
+    let z = eqb→eq a 0 (and-r (eqb a (m * up e * down d)) (eqb a 0) h) in
+    lt-irrefl 0 (subst (λ (x : ℕ). 0 < x) z (mul-pos (mul-pos N (up-pos d)) (down-pos e)))
+
+with-sign : (x : Float) (a c : ℕ) → HasValue x true a c → T (le least x) → ⊥
+with-sign nan a c v h = v
+with-sign (inf t) a c v h = v
+with-sign (fin false m e) a c v h = true≢false (sym (v .0))
+with-sign (fin true m e) a c v h = not-under 1 (negsuc 12) m e (pow-pos 0) h
+
+not-below-units : (b : Bool) (q k : ℕ) → T (le least (cond b (odd 54 true q k 1074) (inf true))) → ⊥
+unfolding le lt eq
+not-below-units true q k h = with-sign (odd 54 true q k 1074) (q * 2 ^ k) (2 ^ 1074) (odd-sign 54 true q k 1074) h
+not-below-units false q k h = h
+
+of-units : (q k : ℕ) → T (le least (units binary64 true q k)) → ⊥
+unfolding units
+of-units q k h = not-below-units (ltb (q * 2 ^ k) (2 ^ 2098)) q k h
+
+not-below : (x c : ℕ) → T (le least (round binary64 true x c)) → ⊥
+not-below x c h = of-units _ _ (rw (round-is binary64 true x c) at h)
+
+not-eight : (x : Float) → T (le eight x) → T (lt x tau1) → ⊥
+unfolding le lt eq ofBits
+not-eight nan h l = l
+not-eight (inf true) h l = h
+not-eight (inf false) h l = l
+not-eight (fin true m e) h l = not-under 1 (pos 3) m e (pow-pos 0) h
+not-eight (fin false m e) h l =
+    let a = le-values 8 1 (m * up e) (down e) (pow-pos 0) (down-pos e) eight (fin false m e) (refl, refl) (refl, refl) h in
+    let b = lt-values (m * up e) (down e) firstPart (2 ^ 30) (down-pos e) (pow-pos 30) (fin false m e) tau1 (refl, refl) tau1-value l in
+    let d = down-pos e in
+    omega (arith, a, b, d)
+
+-- ---- k as a double, k * T1 exactly, k * T2 rounded once
+module _ (k : ℕ) (small : k < 2 ^ 18) where
+  whole-value : HasValue (ofInt binary64 (pos k)) false k 1
+  unfolding ofInt
+  whole-value = round-whole binary64 false k (omega arith)
+
+  pub first-value : HasValue (mul binary64 (ofInt binary64 (pos k)) tau1) false (k * firstPart) (2 ^ 30)
+  first-value =
+      subst (λ (x : Float). HasValue x false (k * firstPart) (2 ^ 30)) (sym (mul-values k 1 firstPart (2 ^ 30) (pow-pos 0) (pow-pos 30) (ofInt binary64 (pos k)) tau1 whole-value tau1-value))
+      (exact-at (k * firstPart) 30 (omega arith) (omega arith))
+
+  pub second-is : mul binary64 (ofInt binary64 (pos k)) tau2 ≡ round binary64 false (k * secondPart) (2 ^ 84)
+  second-is = mul-values k 1 secondPart (2 ^ 84) (pow-pos 0) (pow-pos 84) (ofInt binary64 (pos k)) tau2 whole-value tau2-value
+
+  -- ---- an angle of v units of 2 ^ -46
+  module _ (t : Float) (v : ℕ) (h : HasValue t false v (2 ^ 46)) where
+    abbrev left : Float
+    left = sub binary64 t (mul binary64 (ofInt binary64 (pos k)) tau1)
+
+    first-units : HasValue (mul binary64 (ofInt binary64 (pos k)) tau1) false (k * firstPart * 2 ^ 16) (2 ^ 46)
+    first-units = rescaled (mul binary64 (ofInt binary64 (pos k)) tau1) false (k * firstPart) (2 ^ 30) (k * firstPart * 2 ^ 16) (2 ^ 46) (pow-pos 30) (mul-assoc (k * firstPart) (2 ^ 16) (2 ^ 30)) first-value
+
+    pub left-is : (j : ℕ) → k * firstPart * 2 ^ 16 + j ≡ v → left ≡ round binary64 false j (2 ^ 46)
+    left-is j e =
+        sub-level v (k * firstPart * 2 ^ 16) (2 ^ 46) t (mul binary64 (ofInt binary64 (pos k)) tau1) (pow-pos 46) h first-units (omega (arith, e))
+        ∙ ap (λ (x : ℕ). round binary64 false x (2 ^ 46)) (omega (arith, e))
+
+    pub left-value : (j : ℕ) → k * firstPart * 2 ^ 16 + j ≡ v → j < 2 ^ 53 → HasValue left false j (2 ^ 46)
+    left-value j e l = subst (λ (x : Float). HasValue x false j (2 ^ 46)) (sym (left-is j e)) (exact-at j 46 l (omega arith))
+
+    -- ---- an estimate that leaves from 2 ^ -13 up to T1 is the number of turns
+    module _ (from : T (le least left)) (under : T (lt left tau1)) where
+      reached : k * firstPart * 2 ^ 16 ≤ v
+      reached = le-of-suc-le-suc (lt-of-not-le (λ (l : v < k * firstPart * 2 ^ 16). not-below _ _ (subst (λ (x : Float). T (le least x)) (sub-values-under v (2 ^ 46) (k * firstPart * 2 ^ 16) (2 ^ 46) (pow-pos 46) (pow-pos 46) t (mul binary64 (ofInt binary64 (pos k)) tau1) h first-units (omega arith)) from)))
+
+      abbrev j : ℕ
+      j = v - k * firstPart * 2 ^ 16
+
+      all : k * firstPart * 2 ^ 16 + j ≡ v
+      all = omega (arith, reached)
+
+      short : j < 2 ^ 49
+      unfolding round
+      short = lt-of-not-le (λ (l : 2 ^ 49 ≤ j). not-eight left (subst (λ (x : Float). T (le eight x)) (sym (left-is j all)) (round-mono binary64 8 1 j (2 ^ 46) (pow-pos 0) (pow-pos 46) (omega (arith, l)))) under)
+
+      value : HasValue left false j (2 ^ 46)
+      value = left-value j all (omega (arith, short))
+
+      at-least : 2 ^ 33 ≤ j
+      at-least = let l = le-values 1 (2 ^ 13) j (2 ^ 46) (pow-pos 13) (pow-pos 46) least left (refl, refl) value from in omega (arith, l)
+
+      at-most : j < firstPart * 2 ^ 16
+      at-most = let l = lt-values j (2 ^ 46) firstPart (2 ^ 30) (pow-pos 46) (pow-pos 30) left tau1 value tau1-value under in omega (arith, l)
+
+      pub estimate-right : k ≡ turns t
+      estimate-right = turns-is t v (value→cross t v (2 ^ 46) h) k (omega (arith, all, at-least)) (omega (arith, all, at-most))
