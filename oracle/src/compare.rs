@@ -6,17 +6,18 @@ use crate::cover::Cover;
 use crate::edges;
 use crate::rng::Rng;
 use crate::sheet::{self, GROUND, Sheet};
-use crate::{generate, port, whole, with_max01};
+use crate::{generate, port, turns, whole, with_max01};
 use arcs::rule;
 use std::io::Write;
 use std::process::{Command, ExitStatus, Stdio};
 
 /// Every case of a seed: N valid sheets with calls that are accepted, some with calls near their limits too, and N damaged ones;
-/// then every field changed by itself, and sheets at the limits. `ask` gives the Rust's answer; what was met is counted.
+/// then every field changed by itself, sheets at the limits, and joints of many turns. `ask` gives the Rust's answer; what was met is counted.
 fn cases(seed: u64, n: usize, mut ask: impl FnMut(&[u8], Call) -> Result<Answer, u32>) -> Cover {
     let (mut rng, mut cover) = (Rng(seed), Cover::new());
     cover.want_lengths();
     cover.want_doubles();
+    cover.want_turns();
     for i in 0..n {
         let most = if i % 50 == 0 { 12 } else { 4 };
         let sheet = if i % 5 == 4 { generate::nearly_free(&mut rng) } else { generate::sheet(&mut rng, i - i / 5, most) };
@@ -65,6 +66,17 @@ fn cases(seed: u64, n: usize, mut ask: impl FnMut(&[u8], Call) -> Result<Answer,
         for call in generate::good_calls(&mut rng, &sheet) {
             let answer = ask(&bytes, call);
             cover.call(call, &answer);
+        }
+    }
+    let mut rng = Rng(seed + 1);
+    for i in (0..turns::NUMBERS).step_by(2) {
+        let sheet = turns::sheet(&mut rng, i, 2);
+        cover.sheet(&sheet);
+        let bytes = sheet.bytes();
+        for call in generate::good_calls(&mut rng, &sheet) {
+            let answer = ask(&bytes, call);
+            cover.call(call, &answer);
+            cover.turned(&sheet, call, &answer);
         }
     }
     cover.branches();

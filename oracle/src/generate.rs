@@ -1,5 +1,5 @@
-//! Sheets by seed, of laws 0 to 6; trains.rs has those with gears. `sheet(rng, index)` is valid: it passes tests 1 to 7. Its first relation
-//! goes through every law, joint kind, flag and pair of primitives as the index grows; the rest is by chance.
+//! Sheets by seed, of laws 0 to 6; trains.rs has those with gears, turns.rs those with joints of many turns. `sheet(rng, index)` is valid: it passes
+//! tests 1 to 7. Its first relation goes through every law, joint kind, flag and pair of primitives as the index grows; the rest is by chance.
 //! `damaged` and `calls` put faults into sheets and into what is lent with them.
 
 use crate::answer::Call;

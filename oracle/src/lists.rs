@@ -10,6 +10,7 @@ use crate::rng::Rng;
 use crate::scenes::{self, Case};
 use crate::sheet::{Body, Relation, Sheet};
 use crate::trains;
+use crate::turns;
 use crate::whole;
 use crate::writing::{by_reading, laid};
 use std::sync::atomic::Ordering;
@@ -318,10 +319,16 @@ fn solver_lists(dir: &str, rng: &mut Rng, scale: usize) {
         answer.resize(7, 0.0);
         rows.put_words(&[relation_words(&r), all_bits(&[poses.as_flattened()]), vec![count], all_bits(&[&answer, &[most]])].concat());
     }
-    let mut gears = Rng(8);
+    // Every kind of laws 0 to 6, then gears, then joints of many turns.
+    let (mut gears, mut turning) = (Rng(8), Rng(14));
     let kinds = generate::kind_count() * scale;
-    for i in 0..kinds + 128 * scale {
-        let (r, bodies) = if i < kinds { generate::single(rng, i) } else { trains::single(&mut gears, i - kinds) };
+    let geared = kinds + 128 * scale;
+    for i in 0..geared + 192 * scale {
+        let (r, bodies) = match i {
+            _ if i < kinds => generate::single(rng, i),
+            _ if i < geared => trains::single(&mut gears, i - kinds),
+            _ => turns::single(&mut turning, i - geared),
+        };
         let mut sheet_bytes = Vec::new();
         bodies.iter().for_each(|b| b.write(&mut sheet_bytes));
         let bytes = Sheet { bodies: bodies.to_vec(), relations: vec![r] }.bytes();

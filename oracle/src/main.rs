@@ -16,6 +16,7 @@ mod rng;
 mod scenes;
 mod sheet;
 mod trains;
+mod turns;
 mod whole;
 mod writing;
 
@@ -51,7 +52,7 @@ use std::io::Read;
 const USAGE: &str = "oracle answer FILE [DRAG]     all answers about a sheet, with all bits
 oracle report < FILE          what the program report prints
 oracle gen SEED N DIR         N valid sheets, written as DIR/NNNN.sheet, and what they cover
-oracle cover SEED N           all calls on N valid and N damaged sheets and the limits: counts, branches, max
+oracle cover SEED N           all calls on N valid and N damaged sheets, the limits, joints of many turns: counts, branches, max
 oracle examples               document 01's own examples, asked of the oracle
 oracle arcs N                 the linked root, sine, cosine and arctangent at their edges and on about 5N arguments
 oracle bench                  time per call of the linked arcs and root beside Rust's own
