@@ -1,21 +1,22 @@
 -- What is left of an angle after k turns. k * T1 is exact, and so is what is left after it where that is below 8; what is left from 2 ^ -13 up to T1 shows that k is the number of turns.
 -- Assumes nothing.
 use Prim.Native.Nat.{ℕ, _+_, _-_, _*_, _^_, _≤_, _<_}
-use native.Mathlib.Nat.{lt-irrefl, le-of-suc-le-suc, lt-of-lt-of-le, lt-of-not-le, mul-assoc, mul-pos, sub-add-cancel}
+use native.Mathlib.Nat.{lt-irrefl, mul-one, mul-right-comm, eq-of-mul-eq-mul-right, le-of-suc-le-suc, lt-of-lt-of-le, lt-of-not-le, mul-assoc, mul-pos, sub-add-cancel}
 use native.Mathlib.Omega.{arith}
 use mathlib.Core.Path.{_≡_, refl, sym, ap, _∙_, subst}
 use mathlib.Core.Bool.{Bool, true, false, cond, true≢false}
 use lib.IntN.{ℤ, pos, negsuc}
 use lib.Dec.{T, ltb, eqb, eqb→eq}
 use lib.Pow.{pow-pos, pow-add, pow-mono, shl-lt}
-use lib.Ieee.{Float, nan, inf, fin, binary64, up, down, odd, units, round, eq, sub, mul, lt, le, ofInt, ofBits}
-use lib.Ieee.Fits.{up-pos, down-pos, and-r, round-is}
+use lib.Ieee.{Float, nan, inf, fin, binary64, unlike, up, down, odd, units, round, eq, isNan, fits, add, sub, mul, lt, le, ofInt, ofBits}
+use lib.Ieee.Fits.{up-pos, down-pos, and-l, and-r, round-is, ofInt-fits}
 use lib.Ieee.Exact.{HasValue, odd-sign, round-exact}
-use lib.Ieee.Back.{round-whole}
+use lib.Ieee.Back.{round-whole, whole-unique}
 use lib.Ieee.Order.{round-mono}
-use lib.Ieee.Positive.{value→cross}
+use lib.Ieee.Positive.{positive, value→cross}
+use Rattle.numbers.proofs.DoubleLaws.{round-number, sum-number}
 use Rattle.arcs.specs.Arcs.{tau1, tau2, turns}
-use Rattle.arcs.specs.TurnSteps.{firstPart, secondPart, turn}
+use Rattle.arcs.specs.TurnSteps.{firstPart, secondPart}
 use Rattle.arcs.proofs.TurnLaws.{turns-is}
 use Rattle.arcs.proofs.Values.{rescaled, mul-values, sub-level, sub-values-under, le-values, lt-values}
 
@@ -34,7 +35,7 @@ exact-at q l h L =
     (ap (λ (x : ℕ). q * 2 ^ x) (sym (sub-add-cancel L)) ∙ ap (λ (x : ℕ). q * x) (pow-add 2 (1074 - l) l) ∙ sym (mul-assoc q (2 ^ (1074 - l)) (2 ^ l)))
 
 -- ---- two orders that no number meets
-abbrev least : Float
+abbrev pub least : Float
 least = fin false 1 (negsuc 12)
 
 abbrev eight : Float
@@ -78,11 +79,49 @@ not-eight (fin false m e) h l =
     let d = down-pos e in
     omega (arith, a, b, d)
 
+-- ---- the quotient, a double that is no NaN
+add-number : (x : Float) (s : Bool) (m : ℕ) (e : ℤ) → isNan x ≡ false → isNan (add binary64 x (fin s m e)) ≡ false
+unfolding add isNan
+add-number nan s m e h = h
+add-number (inf t) s m e h = refl
+add-number (fin t n g) s m e h = sum-number binary64 t (n * up g * down e) s (m * up e * down g) (down g * down e)
+
+pub quotient-number : (t : Float) → T (positive t) → isNan (add binary64 (mul binary64 t (ofBits binary64 0x3FC4_5F30_6DC9_C883)) (ofBits binary64 0x432F_FFFF_FFFF_FFFF)) ≡ false
+unfolding mul ofBits
+quotient-number nan h = absurd h
+quotient-number (inf s) h = absurd h
+quotient-number (fin s m e) h = add-number (mul binary64 (fin s m e) (ofBits binary64 0x3FC4_5F30_6DC9_C883)) _ _ _ (round-number binary64 (unlike s false) (m * up e * (5734161139222659 * 1)) (down e * 2 ^ 55))
+
+-- ---- a double that equals a whole number above 0 is that number
+level-value : (m e' n q d' : ℕ) → 0 < d' → m * d' ≡ q * e' → q * 1 ≡ n * d' → m * 1 ≡ n * e'
+level-value m e' n q d' D h k = eq-of-mul-eq-mul-right d' D (m * 1) (n * e') (ap (λ (x : ℕ). x * d') (mul-one m) ∙ h ∙ ap (λ (x : ℕ). x * e') (sym (mul-one q) ∙ k) ∙ mul-right-comm n d' e')
+
+value-of-eq : (x y : Float) (n : ℕ) → 0 < n → HasValue y false n 1 → T (eq x y) → HasValue x false n 1
+unfolding eq
+value-of-eq nan y n N v h = absurd h
+value-of-eq (inf s) nan n N v h = absurd v
+value-of-eq (inf s) (inf t) n N v h = absurd v
+value-of-eq (inf s) (fin t q d) n N v h = absurd h
+value-of-eq (fin s m e) nan n N v h = absurd v
+value-of-eq (fin s m e) (inf t) n N v h = absurd v
+value-of-eq (fin s m e) (fin true q d) n N v h = absurd (true≢false (v .0))
+value-of-eq (fin false m e) (fin false q d) n N v h = (refl, level-value (m * up e) (down e) n (q * up d) (down d) (down-pos d) (eqb→eq _ _ (and-l (eqb (m * up e * down d) (q * up d * down e)) true h)) (v .1))
+value-of-eq (fin true m e) (fin false q d) n N v h =
+    let a = m * up e * down d in
+    let b = q * up d * down e in
+    let same : a ≡ b = eqb→eq a b (and-l (eqb a b) (eqb a 0) h) in
+    let none : a ≡ 0 = eqb→eq a 0 (and-r (eqb a b) (eqb a 0) h) in
+    let full : b ≡ n * down d * down e = ap (λ (x : ℕ). x * down e) (sym (mul-one (q * up d)) ∙ v .1) in
+    absurd (lt-irrefl 0 (subst (λ (x : ℕ). 0 < x) (sym full ∙ sym same ∙ none) (mul-pos (mul-pos N (down-pos d)) (down-pos e))))
+
 -- ---- k as a double, k * T1 exactly, k * T2 rounded once
 module _ (k : ℕ) (small : k < 2 ^ 18) where
   whole-value : HasValue (ofInt binary64 (pos k)) false k 1
   unfolding ofInt
   whole-value = round-whole binary64 false k (omega arith)
+
+  pub same-whole : (x : Float) → T (fits binary64 x) → 0 < k → T (eq x (ofInt binary64 (pos k))) → x ≡ ofInt binary64 (pos k)
+  same-whole x f K h = whole-unique binary64 x (ofInt binary64 (pos k)) false k f (ofInt-fits binary64 (pos k)) (value-of-eq x (ofInt binary64 (pos k)) k K whole-value h) whole-value
 
   pub first-value : HasValue (mul binary64 (ofInt binary64 (pos k)) tau1) false (k * firstPart) (2 ^ 30)
   first-value =

@@ -50,14 +50,6 @@ fn fits(k: u64, high: u64, low: u64) -> bool
     h < high || h == high && w % 0x1_0000 <= low
 }
 
-// An estimate of the number of turns, from the last digits of the quotient moved up to where doubles are whole. How near it is decides only the speed.
-fn estimate(t: f64) -> u32
-    requires { ⌜ T (spec.far t) ⌝ }
-    ensures { λ r. ⌜ r < 2 ^ 18 ⌝ }
-{
-    (f64::to_bits(t * 0.15915494309189535 + 4503599627370495.5) % 0x4_0000) as u32
-}
-
 // Whole numbers to choose from: k turns fit and k + room do not.
 struct Choice {
     k: u64,
@@ -110,17 +102,19 @@ fn turns(t: f64, near: u64) -> u64
     k
 }
 
-// What is left after the turns. An estimate k is their number where it leaves from 2^-13, which is more than any k * T2, up to T1.
+// What is left after the turns. The quotient, moved up to where doubles are whole, has an estimate k of their number in its last digits; how near it is decides only the speed. It is the number where it
+// leaves from 2^-13, which is more than any k * T2, up to T1.
 pub fn less_turns(t: f64) -> f64
     requires { ⌜ T (spec.far t) ⌝ }
     ensures { λ r. ⌜ r ≡ spec.lessTurns t (spec.turns t) ⌝ }
 {
-    let near = estimate(t);
-    let k = near as f64;
+    let x = t * 0.15915494309189535 + 4503599627370495.5;
+    let near = f64::to_bits(x) % 0x4_0000;
+    let k = x - 4503599627370496.0;
     let left = t - k * T1;
-    if 0.0001220703125 <= left && left < T1 {
+    if 0 < near && k == near as f64 && 0.0001220703125 <= left && left < T1 {
         return left - k * T2;
     }
-    let k = turns(t, near as u64) as f64;
+    let k = turns(t, near) as f64;
     t - k * T1 - k * T2
 }
