@@ -1,5 +1,5 @@
 //! Root, sine, cosine and arctangent of the static library that `rt staticlib arcs` writes, which the oracle calls.
-//! Module `rule` is a reading of document 01's rule and of request 3/14, written from documents 01 and 02 alone; the library is compared with it.
+//! Module `rule` is a reading of document 01's rule and of request 3/14, written from documents 01 and 02; it shares nothing with the port, and the library is compared with it.
 
 pub mod rule {
     /// 2π, π, π/2 and π/4, by bits.

@@ -143,7 +143,7 @@ module _ (t : Float) (f : T (fits binary64 t)) (h : T (far t)) where
   pub far-value : HasValue t false units46 (2 ^ 46)
   far-value = of-cross t (at .above) units46 (2 ^ 46) (steps-same (2 ^ 52 + b % 2 ^ 52) (b / 2 ^ 52 - 1029) (far-bits .digits) (far-bits .place))
 
-  pub far-units : units46 ≤ 2 ^ 66
+  far-units : units46 ≤ 2 ^ 66
   far-units = le-of-mul-le-mul-right (le-trans (le-of-eq (sym (value→cross t units46 (2 ^ 46) far-value))) (le-trans (mul-le-mul-right (2 ^ 46) (at .up-to)) (le-of-eq (mul-right-comm (2 ^ 20) (den t) (2 ^ 46))))) (den-pos t)
 
   pub far-steps : (let s = b / 2 ^ 52 - 1029 in let d = 2 ^ 52 + b % 2 ^ 52 in Steps t (d / 2 ^ (16 - s)) (d * 2 ^ s % 2 ^ 64 % 2 ^ 16))

@@ -60,11 +60,8 @@ few k d n D fit most =
     lt-of-not-le (λ (q : 2 ^ 18 ≤ k). not-le-of-lt (mul-lt-mul-of-pos-right closed D)
     (le-trans (le-of-eq (mul-right-comm (2 ^ 18) turn d)) (le-trans (mul-le-mul-right turn (mul-le-mul-right d q)) (le-trans fit (le-trans (mul-le-mul-right (2 ^ 84) most) (le-of-eq (mul-right-comm (2 ^ 20) d (2 ^ 84))))))))
 
--- the same of an angle of v units of 2 ^ -46
-pub few-units : (k v : ℕ) → k * turn ≤ v * 2 ^ 38 → v ≤ 2 ^ 66 → k < 2 ^ 18
-few-units k v fit most =
-    let closed : 2 ^ 104 < 2 ^ 18 * turn = ltb→lt (2 ^ 104) (2 ^ 18 * turn) tt in
-    lt-of-not-le (λ (q : 2 ^ 18 ≤ k). not-le-of-lt closed (le-trans (mul-le-mul-right turn q) (le-trans fit (mul-le-mul-right (2 ^ 38) most))))
+pub few-turns : (t : Float) → T (far t) → turns t < 2 ^ 18
+few-turns t h = few (turns t) (den t) (num t) (den-pos t) (turns-in-fractions t .fit) (far-between t h .up-to)
 
 -- ---- the two differences
 module _ (P : Float → Type 0) (g : (m : ℕ) (e : ℤ) → m * up e * 1 ≤ 7 * down e → P (fin false m e)) where
@@ -90,7 +87,7 @@ module _ (P : Float → Type 0) (g : (m : ℕ) (e : ℤ) → m * up e * 1 ≤ 7 
       let k = turns t in
       let x = k * d in
       let f = turns-in-fractions t in
-      let small : k < 2 ^ 18 = few k d n (den-pos t) (f .fit) (at .up-to) in
+      let small : k < 2 ^ 18 = few-turns t h in
       let most : x ≤ 2 ^ 18 * d = mul-le-mul-right d (le-of-lt small) in
       let y = n * 2 ^ 30 - k * firstPart * d in
       let same : k * firstPart * d ≡ x * firstPart = mul-right-comm k firstPart d in

@@ -6,12 +6,12 @@ use native.Mathlib.Omega.{arith}
 use mathlib.Core.Path.{_≡_, refl, sym, ap, _∙_, subst}
 use mathlib.Core.Bool.{Bool, true, false, cond, true≢false, false≢true}
 use lib.IntN.{ℤ, pos}
-use lib.Dec.{T, leb→le, ltb, ltb→lt}
+use lib.Dec.{T, leb→le, ltb→lt}
 use lib.Pow.{pow-pos}
-use lib.Ieee.{Float, nan, inf, fin, binary64, up, down, odd, units, round, rem, sub, mul, lt, le, eq, fits, ofInt, ofBits}
+use lib.Ieee.{Float, nan, inf, fin, binary64, up, down, round, rem, sub, mul, lt, le, eq, fits, ofInt, ofBits}
 use lib.Ieee.Bits.{is-true}
-use lib.Ieee.Fits.{down-pos, round-is}
-use lib.Ieee.Exact.{HasValue, odd-sign}
+use lib.Ieee.Fits.{down-pos}
+use lib.Ieee.Exact.{HasValue}
 use lib.Ieee.Order.{round-mono}
 use lib.Ieee.Positive.{num, den, value→cross}
 use Rattle.numbers.specs.Double.{isFinite, negative}
@@ -19,11 +19,11 @@ use Rattle.numbers.proofs.Round.{round-moves}
 use Rattle.arcs.specs.Arcs.{tau, tau1, tau2, turns, far, lessTurns, reduced}
 use Rattle.arcs.specs.Turns.{In-turn}
 use Rattle.arcs.specs.TurnSteps.{firstPart, secondPart, turn}
-use Rattle.arcs.proofs.FarLaws.{units46, far-value, far-units}
+use Rattle.arcs.proofs.FarLaws.{units46, far-value}
 use Rattle.arcs.proofs.TurnLaws.{turns-fit, turns-over}
 use Rattle.arcs.proofs.LeftLaws.{left-is, left-value, second-is}
-use Rattle.arcs.proofs.FarRange.{parts, few-units}
-use Rattle.arcs.proofs.Values.{rescaled, sub-level, le-values}
+use Rattle.arcs.proofs.FarRange.{parts, few-turns}
+use Rattle.arcs.proofs.Values.{rounded, rescaled, sub-level, le-values}
 
 -- ---- a rounded number not above T
 of-value : (x : Float) (a c : ℕ) → HasValue x false a c → T (le x tau) → In-turn x
@@ -33,14 +33,9 @@ of-value (inf s) a c v h = absurd v
 of-value (fin true m e) a c v h = absurd (true≢false (v .0))
 of-value (fin false m e) a c v h = record { number = refl; plus = refl; most = is-true (le (fin false m e) tau) h }
 
-of-cond : (b : Bool) (q k : ℕ) → T (le (cond b (odd 54 false q k 1074) (inf false)) tau) → In-turn (cond b (odd 54 false q k 1074) (inf false))
+no-infinity : T (le (inf false) tau) → In-turn (inf false)
 unfolding le lt eq ofBits
-of-cond true q k h = of-value (odd 54 false q k 1074) (q * 2 ^ k) (2 ^ 1074) (odd-sign 54 false q k 1074) h
-of-cond false q k h = absurd h
-
-of-units : (q k : ℕ) → T (le (units binary64 false q k) tau) → In-turn (units binary64 false q k)
-unfolding units
-of-units q k h = of-cond (ltb (q * 2 ^ k) (2 ^ 2098)) q k h
+no-infinity h = absurd h
 
 -- T1 + T2 and 2 ^ -67 more is rounded to T
 abbrev most : ℕ
@@ -48,8 +43,7 @@ most = turn + 2 ^ 17
 
 round-in-turn : (a b : ℕ) → 0 < b → a * 2 ^ 84 ≤ most * b → In-turn (round binary64 false a b)
 round-in-turn a b B h =
-    let l : T (le (round binary64 false a b) tau) = subst (λ (x : Float). T (le (round binary64 false a b) x)) rounds (round-mono binary64 a b most (2 ^ 84) B (pow-pos 84) h) in
-    rw (round-is binary64 false a b) (of-units _ _ (rw (round-is binary64 false a b) at l))
+    rounded false a b (λ x. T (le x tau) → In-turn x) of-value no-infinity (subst (λ (x : Float). T (le (round binary64 false a b) x)) rounds (round-mono binary64 a b most (2 ^ 84) B (pow-pos 84) h))
   where
     rounds : round binary64 false most (2 ^ 84) ≡ tau
     rounds = unfold round in unfold ofBits in refl
@@ -126,7 +120,7 @@ module _ (t : Float) (f : T (fits binary64 t)) (h : T (far t)) where
 
   pub left-units : Left k j
   left-units =
-      let few = few-units k v fit (far-units t f h) in
+      let few = few-turns t h in
       let a = less (k * firstPart * 2 ^ 54) (j * 2 ^ 38) (v * 2 ^ 38) (k * secondPart + turn) all (lt-of-lt-of-le over (le-of-eq (suc-mul k turn ∙ ap (λ (x : ℕ). x + turn) (parts k) ∙ add-assoc (k * firstPart * 2 ^ 54) (k * secondPart) turn))) in
       record {
         few = few;

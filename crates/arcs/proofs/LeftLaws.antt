@@ -4,13 +4,13 @@ use Prim.Native.Nat.{ℕ, _+_, _-_, _*_, _^_, _≤_, _<_}
 use native.Mathlib.Nat.{lt-irrefl, mul-one, mul-right-comm, eq-of-mul-eq-mul-right, le-of-suc-le-suc, lt-of-lt-of-le, lt-of-not-le, mul-assoc, mul-pos, sub-add-cancel}
 use native.Mathlib.Omega.{arith}
 use mathlib.Core.Path.{_≡_, refl, sym, ap, _∙_, subst}
-use mathlib.Core.Bool.{Bool, true, false, cond, true≢false}
+use mathlib.Core.Bool.{Bool, true, false, true≢false}
 use lib.IntN.{ℤ, pos, negsuc}
-use lib.Dec.{T, ltb, eqb, eqb→eq}
+use lib.Dec.{T, eqb, eqb→eq}
 use lib.Pow.{pow-pos, pow-add, pow-mono, shl-lt}
-use lib.Ieee.{Float, nan, inf, fin, binary64, unlike, up, down, odd, units, round, eq, isNan, fits, add, sub, mul, lt, le, ofInt, ofBits}
-use lib.Ieee.Fits.{up-pos, down-pos, and-l, and-r, round-is, ofInt-fits}
-use lib.Ieee.Exact.{HasValue, odd-sign, round-exact}
+use lib.Ieee.{Float, nan, inf, fin, binary64, unlike, up, down, round, eq, isNan, fits, add, sub, mul, lt, le, ofInt, ofBits}
+use lib.Ieee.Fits.{up-pos, down-pos, and-l, and-r, ofInt-fits}
+use lib.Ieee.Exact.{HasValue, round-exact}
 use lib.Ieee.Back.{round-whole, whole-unique}
 use lib.Ieee.Order.{round-mono}
 use lib.Ieee.Positive.{positive, value→cross}
@@ -18,7 +18,7 @@ use Rattle.numbers.proofs.DoubleLaws.{round-number, sum-number}
 use Rattle.arcs.specs.Arcs.{tau1, tau2, turns}
 use Rattle.arcs.specs.TurnSteps.{firstPart, secondPart}
 use Rattle.arcs.proofs.TurnLaws.{turns-is}
-use Rattle.arcs.proofs.Values.{rescaled, mul-values, sub-level, sub-values-under, le-values, lt-values}
+use Rattle.arcs.proofs.Values.{rounded, rescaled, mul-values, sub-level, sub-values-under, le-values, lt-values}
 
 tau1-value : HasValue tau1 false firstPart (2 ^ 30)
 unfolding ofBits
@@ -55,17 +55,9 @@ with-sign (inf t) a c v h = v
 with-sign (fin false m e) a c v h = true≢false (sym (v .0))
 with-sign (fin true m e) a c v h = not-under 1 (negsuc 12) m e (pow-pos 0) h
 
-not-below-units : (b : Bool) (q k : ℕ) → T (le least (cond b (odd 54 true q k 1074) (inf true))) → ⊥
-unfolding le lt eq
-not-below-units true q k h = with-sign (odd 54 true q k 1074) (q * 2 ^ k) (2 ^ 1074) (odd-sign 54 true q k 1074) h
-not-below-units false q k h = h
-
-of-units : (q k : ℕ) → T (le least (units binary64 true q k)) → ⊥
-unfolding units
-of-units q k h = not-below-units (ltb (q * 2 ^ k) (2 ^ 2098)) q k h
-
 not-below : (x c : ℕ) → T (le least (round binary64 true x c)) → ⊥
-not-below x c h = of-units _ _ (rw (round-is binary64 true x c) at h)
+unfolding le lt eq
+not-below x c = rounded true x c (λ y. T (le least y) → ⊥) with-sign (λ h. h)
 
 not-eight : (x : Float) → T (le eight x) → T (lt x tau1) → ⊥
 unfolding le lt eq ofBits

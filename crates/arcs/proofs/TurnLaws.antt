@@ -1,6 +1,6 @@
--- The number of turns in an angle, by fractions and by whole numbers of units. Assumes nothing.
+-- The number of turns in an angle, by fractions (`turns-greatest`) and by whole numbers of units. Assumes nothing.
 use Prim.Native.Nat.{ℕ, suc, _+_, _*_, _/_, _^_, _≤_, _<_}
-use native.Mathlib.Nat.{le-refl, le-trans, le-of-eq, lt-of-lt-of-le, lt-of-le-of-lt, le-antisymm, le-of-suc-le-suc, mul-assoc, mul-right-comm, mul-le-mul-right, mul-lt-mul-of-pos-right, le-of-mul-le-mul-right, lt-of-mul-lt-mul-right, mul-pos, suc-mul, le-div-iff-mul-le, div-lt-iff-lt-mul, lt-suc-self}
+use native.Mathlib.Nat.{le-refl, le-trans, le-of-eq, lt-of-lt-of-le, lt-of-le-of-lt, le-antisymm, le-of-suc-le-suc, mul-assoc, mul-right-comm, le-of-mul-le-mul-right, lt-of-mul-lt-mul-right, mul-pos, suc-mul, le-div-iff-mul-le, div-lt-iff-lt-mul, lt-suc-self}
 use native.Mathlib.Omega.{arith}
 use mathlib.Core.Path.{_≡_, refl, sym, ap, _∙_}
 use lib.Pow.{pow-pos}
@@ -24,10 +24,6 @@ turn-pos = omega arith
 
 one-turn : (t : Float) → 0 < turnNum * den t
 one-turn t = rw turn-num (mul-pos (mul-pos turn-pos (pow-pos 28)) (den-pos t))
-
--- the quotient is below what is above it, and the other way round
-quotient-lt : (n c k : ℕ) → 0 < c → n < suc k * c → n / c ≤ k
-quotient-lt n c k C h = le-of-suc-le-suc (div-lt-iff-lt-mul C .1 h)
 
 quotient-fits : (n c : ℕ) → 0 < c → n / c * c ≤ n
 quotient-fits n c C = le-div-iff-mul-le C .0 (le-refl (n / c))
@@ -65,35 +61,20 @@ turns-in-fractions t =
 
 -- ---- an angle of v units of 2 ^ -46, which are v * 2 ^ 38 of 2 ^ -84
 module _ (t : Float) (v : ℕ) (e : num t * 2 ^ 46 ≡ v * den t) where
-  abbrev d : ℕ
-  d = 2 ^ 28 * den t
-
-  d-pos : 0 < d
-  d-pos = mul-pos (pow-pos 28) (den-pos t)
-
-  all : num t * turnDen ≡ v * 2 ^ 38 * d
-  all =
-      ap (λ (x : ℕ). num t * x) turn-den
-      ∙ sym (mul-assoc (num t) (2 ^ 46) (2 ^ 66))
-      ∙ ap (λ (x : ℕ). x * 2 ^ 66) e
-      ∙ mul-right-comm v (den t) (2 ^ 66)
-      ∙ ap (λ (x : ℕ). x * den t) (sym (mul-assoc v (2 ^ 38) (2 ^ 28)))
-      ∙ mul-assoc (v * 2 ^ 38) (2 ^ 28) (den t)
-
-  some : (k : ℕ) → k * (turnNum * den t) ≡ k * turn * d
-  some k = ap (λ (x : ℕ). k * (x * den t)) turn-num ∙ ap (λ (x : ℕ). k * x) (mul-assoc turn (2 ^ 28) (den t)) ∙ sym (mul-assoc k turn d)
-
-  pub turns-is : (k : ℕ) → k * turn ≤ v * 2 ^ 38 → v * 2 ^ 38 < suc k * turn → k ≡ turns t
-  unfolding turns
-  turns-is k low high =
-      le-antisymm
-      (le-div-iff-mul-le (one-turn t) .1 (le-trans (le-of-eq (some k)) (le-trans (mul-le-mul-right d low) (le-of-eq (sym all)))))
-      (quotient-lt (num t * turnDen) (turnNum * den t) k (one-turn t) (lt-of-le-of-lt (le-of-eq all) (lt-of-lt-of-le (mul-lt-mul-of-pos-right high d-pos) (le-of-eq (sym (some (suc k)))))))
+  all : num t * 2 ^ 84 ≡ v * 2 ^ 38 * den t
+  all = sym (mul-assoc (num t) (2 ^ 46) (2 ^ 38)) ∙ ap (λ (x : ℕ). x * 2 ^ 38) e ∙ mul-right-comm v (den t) (2 ^ 38)
 
   pub turns-fit : turns t * turn ≤ v * 2 ^ 38
-  unfolding turns
-  turns-fit = le-of-mul-le-mul-right (le-trans (le-of-eq (sym (some (turns t)))) (le-trans (quotient-fits (num t * turnDen) (turnNum * den t) (one-turn t)) (le-of-eq all))) d-pos
+  turns-fit = le-of-mul-le-mul-right (le-trans (le-of-eq (mul-right-comm (turns t) turn (den t))) (le-trans (turns-in-fractions t .fit) (le-of-eq all))) (den-pos t)
 
   pub turns-over : v * 2 ^ 38 < suc (turns t) * turn
-  unfolding turns
-  turns-over = lt-of-mul-lt-mul-right d (lt-of-le-of-lt (le-of-eq (sym all)) (lt-of-lt-of-le (quotient-over (num t * turnDen) (turnNum * den t) (one-turn t)) (le-of-eq (some (suc (turns t))))))
+  turns-over =
+      lt-of-mul-lt-mul-right (den t)
+      (lt-of-le-of-lt (le-of-eq (sym all)) (lt-of-lt-of-le (turns-in-fractions t .over) (le-of-eq (ap (λ (x : ℕ). x * turn) (sym (suc-mul (turns t) (den t))) ∙ mul-right-comm (suc (turns t)) (den t) turn))))
+
+  -- and no other number lies there
+  pub turns-is : (k : ℕ) → k * turn ≤ v * 2 ^ 38 → v * 2 ^ 38 < suc k * turn → k ≡ turns t
+  turns-is k fit over = le-antisymm (within k (turns t) fit turns-over) (within (turns t) k turns-fit over)
+    where
+      within : (i j : ℕ) → i * turn ≤ v * 2 ^ 38 → v * 2 ^ 38 < suc j * turn → i ≤ j
+      within i j h l = le-of-suc-le-suc (lt-of-mul-lt-mul-right turn (lt-of-le-of-lt h l))

@@ -25,23 +25,23 @@ use Rattle.arcs.proofs.InTurn.{k, j, v, Left, left-units, Worked, worke
 use Rattle.arcs.proofs.InTurn as long
 
 -- ---- a number without a sign and the fraction that it is
-abbrev over : ℕ → ℕ → Frac
-over a c = record { num = pos a; den = c }
+abbrev fraction : ℕ → ℕ → Frac
+fraction a c = record { num = pos a; den = c }
 
-is-over : (a c : ℕ) → Is (over a c) a 0
+is-over : (a c : ℕ) → Is (fraction a c) a 0
 is-over a c = record { value = omega arith }
 
 crossed : (x y a b : ℕ) → x ≡ y → x + 0 * a ≤ 0 * b + y
 crossed x y a b e = le-trans (le-of-eq (ap (λ (z : ℕ). x + z) (zero-mul a) ∙ add-zero x)) (le-trans (le-of-eq e) (le-of-eq (sym (ap (λ (z : ℕ). z + y) (zero-mul b) ∙ zero-add y))))
 
-value-most : (x : Float) (a c : ℕ) → HasValue x false a c → AtMostQ (fracOf x) (over a c)
+value-most : (x : Float) (a c : ℕ) → HasValue x false a c → AtMostQ (fracOf x) (fraction a c)
 unfolding fracOf
 value-most nan a c h = absurd h
 value-most (inf s) a c h = absurd h
 value-most (fin true m e) a c h = absurd (true≢false (h .0))
 value-most (fin false m e) a c h = at-most-of (is-over (m * up e) (down e)) (is-over a c) (crossed (m * up e * c) (a * down e) (down e) c (h .1))
 
-value-least : (x : Float) (a c : ℕ) → HasValue x false a c → AtMostQ (over a c) (fracOf x)
+value-least : (x : Float) (a c : ℕ) → HasValue x false a c → AtMostQ (fraction a c) (fracOf x)
 unfolding fracOf
 value-least nan a c h = absurd h
 value-least (inf s) a c h = absurd h
@@ -50,7 +50,7 @@ value-least (fin false m e) a c h = at-most-of (is-over a c) (is-over (m * up e)
 
 -- ---- over one denominator
 module _ (d : ℕ) (D : 0 < d) where
-  less-over : (a e x k z : ℕ) → a + k * z ≤ e + x → AtMostQ (subQ (over a d) (over e d)) (subQ (over x d) (mulQ (whole k) (over z d)))
+  less-over : (a e x k z : ℕ) → a + k * z ≤ e + x → AtMostQ (subQ (fraction a d) (fraction e d)) (subQ (fraction x d) (mulQ (whole k) (fraction z d)))
   unfolding subQ addQ negQ mulQ
   less-over a e x k z h =
       at-most-of (is-sub (is-over a d) (is-over e d)) (is-sub (is-over x d) (is-mul (is-over k 1) (is-over z d)))
@@ -62,7 +62,7 @@ module _ (d : ℕ) (D : 0 < d) where
       high : (e + x) * (d * (d * d)) ≡ (0 * d + e * d) * (d * (1 * d)) + (x * (1 * d) + (k * 0 + 0 * z) * d) * (d * d)
       high = simp (zero-mul, mul-zero, one-mul, add-zero, zero-add, ring)
 
-  over-less : (a e x k z : ℕ) → x ≤ k * z + (a + e) → AtMostQ (subQ (over x d) (mulQ (whole k) (over z d))) (addQ (over a d) (over e d))
+  over-less : (a e x k z : ℕ) → x ≤ k * z + (a + e) → AtMostQ (subQ (fraction x d) (mulQ (whole k) (fraction z d))) (addQ (fraction a d) (fraction e d))
   unfolding subQ addQ negQ mulQ
   over-less a e x k z h =
       at-most-of (is-sub (is-over x d) (is-mul (is-over k 1) (is-over z d))) (is-add (is-over a d) (is-over e d))
@@ -92,15 +92,15 @@ shortTurn = firstPart * 2 ^ 1044 + secondPart * 2 ^ 990
 abbrev most : ℕ
 most = 2 ^ 1024
 
-two-pi-most : AtMostQ (twice piHigh) (over longTurn (2 ^ 1074))
+two-pi-most : AtMostQ (twice piHigh) (fraction longTurn (2 ^ 1074))
 unfolding piHigh ltQ
 two-pi-most = refl
 
-two-pi-least : AtMostQ (over shortTurn (2 ^ 1074)) (twice piLow)
+two-pi-least : AtMostQ (fraction shortTurn (2 ^ 1074)) (twice piLow)
 unfolding piLow ltQ
 two-pi-least = refl
 
-half-place : AtMostQ (over most (2 ^ 1074)) (oneOver (2 ^ 50))
+half-place : AtMostQ (fraction most (2 ^ 1074)) (oneOver (2 ^ 50))
 unfolding ltQ
 half-place = refl
 
@@ -173,14 +173,14 @@ module _ (t : Float) (f : T (fits binary64 t)) (h : T (far t)) where
       let d = 2 ^ 1074 in
       record {
         above =
-            at-most-trans _ _ _ (pow-pos 2148) (sub-at-most (fracOf (lessTurns t K)) (over A d) (oneOver (2 ^ 50)) (over most d) (value-most (lessTurns t K) A d value) half-place)
+            at-most-trans _ _ _ (pow-pos 2148) (sub-at-most (fracOf (lessTurns t K)) (fraction A d) (oneOver (2 ^ 50)) (fraction most d) (value-most (lessTurns t K) A d value) half-place)
             (at-most-trans _ _ _ (pow-pos 2148) (less-over d (pow-pos 1074) A most Y K longTurn upper)
-            (sub-at-most (over Y d) (fracOf t) (mulQ (whole K) (over longTurn d)) (mulQ (whole K) (twice piHigh)) (value-least t Y d angle) (mul-at-most-left (whole K) (twice piHigh) (over longTurn d) (whole-not-below K) two-pi-most)));
+            (sub-at-most (fraction Y d) (fracOf t) (mulQ (whole K) (fraction longTurn d)) (mulQ (whole K) (twice piHigh)) (value-least t Y d angle) (mul-at-most-left (whole K) (twice piHigh) (fraction longTurn d) (whole-not-below K) two-pi-most)));
         below =
             at-most-trans _ _ _ (pow-pos 2148)
-            (sub-at-most (fracOf t) (over Y d) (mulQ (whole K) (twice piLow)) (mulQ (whole K) (over shortTurn d)) (value-most t Y d angle) (mul-at-most-left (whole K) (over shortTurn d) (twice piLow) (whole-not-below K) two-pi-least))
+            (sub-at-most (fracOf t) (fraction Y d) (mulQ (whole K) (twice piLow)) (mulQ (whole K) (fraction shortTurn d)) (value-most t Y d angle) (mul-at-most-left (whole K) (fraction shortTurn d) (twice piLow) (whole-not-below K) two-pi-least))
             (at-most-trans _ _ _ (pow-pos 2148) (over-less d (pow-pos 1074) A most Y K shortTurn lower)
-            (add-at-most (over A d) (fracOf (lessTurns t K)) (over most d) (oneOver (2 ^ 50)) (value-least (lessTurns t K) A d value) half-place));
+            (add-at-most (fraction A d) (fracOf (lessTurns t K)) (fraction most d) (oneOver (2 ^ 50)) (value-least (lessTurns t K) A d value) half-place));
       }
 
 pub reduced-near : (t : Float) → T (fits binary64 t) → T (far t) → Near-turns t (reduced t) (turns t)

@@ -1,13 +1,13 @@
--- Numbers without a sign by the fractions that they are: the same number as another fraction, products, differences and order. Assumes nothing.
-use Prim.Native.Nat.{ℕ, _-_, _*_, _≤_, _<_}
+-- Numbers without a sign by the fractions that they are: the same number as another fraction, products, differences and order; and what a rounded number may be. Assumes nothing.
+use Prim.Native.Nat.{ℕ, _-_, _*_, _^_, _≤_, _<_}
 use native.Mathlib.Nat.{lt-of-not-le, not-le-of-lt, mul-le-mul-right, mul-pos, mul-assoc, mul-comm, mul-right-comm, mul-mul-mul-comm, mul-sub, eq-of-mul-eq-mul-right}
 use mathlib.Core.Path.{_≡_, sym, ap, _∙_}
-use mathlib.Core.Bool.{Bool, true, false, true≢false}
+use mathlib.Core.Bool.{Bool, true, false, cond, true≢false}
 use lib.IntN.{ℤ}
-use lib.Dec.{T, ltb→lt}
-use lib.Ieee.{Float, nan, inf, fin, binary64, up, down, round, sum, add, sub, mul, neg, lt, le}
-use lib.Ieee.Fits.{down-pos}
-use lib.Ieee.Exact.{HasValue}
+use lib.Dec.{T, ltb, ltb→lt}
+use lib.Ieee.{Float, nan, inf, fin, binary64, up, down, odd, units, round, sum, add, sub, mul, neg, lt, le}
+use lib.Ieee.Fits.{down-pos, round-is}
+use lib.Ieee.Exact.{HasValue, odd-sign}
 use lib.Ieee.Scale.{round-same}
 use lib.Ieee.Order.{transfer}
 use borrow.Author.Tests.{lt-ltb, le-ltb}
@@ -109,3 +109,15 @@ pub sub-level : (a b c : ℕ) (x y : Float) → 0 < c → HasValue x false a c �
 sub-level a b c x y C h k l =
     sub-values a c b c C C x y h k (mul-le-mul-right c l)
     ∙ round-same binary64 false (a * c - b * c) (c * c) (a - b) c (mul-pos C C) C (ap (λ (z : ℕ). z * c) (sym (sub-mul a b c)) ∙ mul-assoc (a - b) c c)
+
+-- ---- a rounded number is finite, with the sign that it was given, or the infinity of that sign
+of-units : (s : Bool) (P : Float → Type 0) → ((x : Float) (p r : ℕ) → HasValue x s p r → P x) → P (inf s) → (b : Bool) (q k : ℕ) → P (cond b (odd 54 s q k 1074) (inf s))
+of-units s P f i true q k = f (odd 54 s q k 1074) (q * 2 ^ k) (2 ^ 1074) (odd-sign 54 s q k 1074)
+of-units s P f i false q k = i
+
+rounded-units : (s : Bool) (P : Float → Type 0) → ((x : Float) (p r : ℕ) → HasValue x s p r → P x) → P (inf s) → (q k : ℕ) → P (units binary64 s q k)
+unfolding units
+rounded-units s P f i q k = of-units s P f i (ltb (q * 2 ^ k) (2 ^ 2098)) q k
+
+pub rounded : (s : Bool) (a b : ℕ) (P : Float → Type 0) → ((x : Float) (p r : ℕ) → HasValue x s p r → P x) → P (inf s) → P (round binary64 s a b)
+rounded s a b P f i = rw (round-is binary64 s a b) (rounded-units s P f i _ _)

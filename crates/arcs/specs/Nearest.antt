@@ -4,11 +4,11 @@ use Prim.Native.Nat.{ℕ, zero, suc, _+_, _*_}
 use mathlib.Core.Path.{_≡_}
 use mathlib.Core.Bool.{Bool, true, false, not}
 use mathlib.Core.List.{List, [], _∷_}
-use lib.IntN.{pos}
 use lib.Ieee.{Float, binary64, round, ofBits}
-use Rattle.numbers.specs.Frac.{Frac, addQ, mulQ, ltQ, fracOf}
+use Rattle.numbers.specs.Frac.{Frac, addQ, mulQ, ltQ}
 use Rattle.arcs.specs.Coefs.{sineCoefs, cosineCoefs, arctangentCoefs}
 use Rattle.arcs.specs.Arcs.{rootTwoLess}
+use Rattle.arcs.specs.Pi.{whole, halfway}
 
 unfoldable pub factorial : ℕ → ℕ
 factorial zero = 1
@@ -22,10 +22,8 @@ reciprocals d s k (suc n) = round binary64 s 1 (d k) ∷ reciprocals d (not s) (
 
 -- the number halfway between two doubles, and 1
 unfoldable pub oneAndHalfway : Float → Float → Frac
-oneAndHalfway x y = addQ (record { num = pos 1; den = 1 }) (mulQ (addQ (fracOf x) (fracOf y)) (record { num = pos 1; den = 2 }))
-
-abbrev pub two : Frac
-two = record { num = pos 2; den = 1 }
+unfolding addQ halfway
+oneAndHalfway x y = addQ (whole 1) (halfway x y)
 
 pub record Nearest-coefs : Type 0 where
   -- 1/1!, -1/3!, .. 1/17!
@@ -35,5 +33,5 @@ pub record Nearest-coefs : Type 0 where
   -- 1/1, -1/3, .. -1/39
   pub arctangent-coefs : arctangentCoefs ≡ reciprocals (λ j. j) false 1 20
   -- √2 - 1 lies above the number halfway to the double before, and below the number halfway to the double after
-  pub root-two-less-above : (let h = oneAndHalfway (ofBits binary64 0x3FDA_8279_99FC_EF31) rootTwoLess in ltQ (mulQ h h) two) ≡ true
-  pub root-two-less-below : (let h = oneAndHalfway rootTwoLess (ofBits binary64 0x3FDA_8279_99FC_EF33) in ltQ two (mulQ h h)) ≡ true
+  pub root-two-less-above : (let h = oneAndHalfway (ofBits binary64 0x3FDA_8279_99FC_EF31) rootTwoLess in ltQ (mulQ h h) (whole 2)) ≡ true
+  pub root-two-less-below : (let h = oneAndHalfway rootTwoLess (ofBits binary64 0x3FDA_8279_99FC_EF33) in ltQ (whole 2) (mulQ h h)) ≡ true

@@ -93,8 +93,7 @@ fn quarters(a: f64) -> u32
     passed(E, a) + passed(3.0 * E, a) + passed(5.0 * E, a) + passed(7.0 * E, a)
 }
 
-// Sine and cosine after q turns of π/2, looked up: a branch would be guessed wrong as often as not. Each has a list of its own: a pair read at once across two entries that were just written waits for
-// both.
+// Sine and cosine after q turns of π/2, looked up: a branch would be guessed wrong as often as not. Each has a list of its own, which is quicker than the pair from one.
 fn turned(q: u32, s: f64, c: f64) -> SineCosine
     requires { ⌜ q ≤ 4 ⌝ }
     ensures { λ r. ⌜ r ≡ spec.turned q s c ⌝ }

@@ -3,4 +3,4 @@
 pub mod arc;
 pub mod horner;
 pub mod root;
-pub mod turns;
+mod turns;
