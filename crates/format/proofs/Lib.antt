@@ -1,2 +1,4 @@
 pub mod RefusalLaws
+pub mod WordLaws
+pub mod BitOrder
 pub mod FieldLaws

@@ -3,22 +3,17 @@ use mathlib.Core.Path.{_≡_, refl, sym, subst, _∙_}
 use mathlib.Core.Bool.{Bool, true, false, _&&_, cond}
 use mathlib.Core.List.{List}
 use mathlib.Core.Logic.{⊎-elim}
-use Prim.Native.Nat.{ℕ, zero, suc, _+_, _*_, _≤_, _<_}
+use Prim.Native.Nat.{ℕ, zero, suc, _+_, _≤_, _<_}
 use native.Mathlib.Nat.{eq-or-lt-of-le, le-of-suc-le-suc}
 use native.Mathlib.Numerals.{add-one}
 use native.Mathlib.Omega.{arith}
 use lib.ListN.{length}
-use lib.Dec.{eqb, leb}
+use lib.Dec.{leb}
 use borrow.Author.Tests.{leb-true, eqb-true}
-use Rattle.records.specs.Record.{byteAt, u16At, zeroBytes}
 use Rattle.format.specs.Format.{bodiesOf, relationsOf, bodyStart, relStart}
 use Rattle.format.specs.Faults.{orElse, headerFault, headerZeros, headerCounts, headerOffsets, bodyShape, bodyLimits, bodyFault, relShape, relTeeth, relNames, relLimits, relFault, bodiesFault, relsFault, sheetFault}
 
 -- ---- one more
-
-pub zero-bytes-more : (s : List ℕ) (o i : ℕ) (z : Bool) → z ≡ zeroBytes s o i → z && eqb (byteAt s (o + i)) 0 ≡ zeroBytes s o (i + 1)
-unfolding zeroBytes
-zero-bytes-more s o i z h = rw (add-one i, h)
 
 pub bodies-more : (s : List ℕ) (i f g : ℕ) → f ≡ bodiesFault s i → g ≡ bodyFault s (bodyStart i) → orElse f g ≡ bodiesFault s (i + 1)
 unfolding bodiesFault

@@ -1,3 +1,4 @@
 pub mod Format
 pub mod Faults
 pub mod Fields
+pub mod Words

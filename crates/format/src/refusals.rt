@@ -1,20 +1,23 @@
 // Tests 1 to 7 and 14 of the table of refusals, as specs/Faults.antt defines them: the header, then each record by its bytes (5), the teeth of a gear's wheels (14), the
 // bodies that its ends name (6) and its doubles (7).
 
-use records::record::double_at;
+use crate::words::double_over;
+use crate::words::none_over;
+use crate::words::vec_over;
+use crate::words::zero_bytes;
 use records::record::u16_at;
 use records::record::u32_at;
 ghost use mathlib.Core.Path.{_≡_};
 ghost use Prim.Native.Nat.{_+_, _*_, _≤_, _<_};
 ghost use lib.ListN.{length};
 ghost use Rattle.records.specs.Record as fields;
-ghost use Rattle.records.specs.Limits as limits;
+ghost use Rattle.format.specs.Words.{Tells};
 ghost use Rattle.format.specs.Faults as spec;
 
-// The limits of a double: directions, frame axes and references; all others.
-const UNIT_LIMIT: f64 = 1.01;
+// The limits of a double by their bits: 1.01 for directions, frame axes and references, 1000 for all others.
+const UNIT_LIMIT: u64 = 0x3FF0_28F5_C28F_5C29;
 
-const THOUSAND: f64 = 1000.0;
+const THOUSAND: u64 = 0x408F_4000_0000_0000;
 
 // The most teeth of a wheel.
 const MOST_TEETH: usize = 400;
@@ -34,20 +37,6 @@ fn word_at(s: &[u8], o: usize) -> usize
     ensures { λ r. ⌜ r ≡ fields.u32At (now (s .entry)) o ⌝ }
 {
     u32_at(s, o) as usize
-}
-
-// The n bytes from o on are 0.
-fn zero_bytes(s: &[u8], o: usize, n: usize) -> bool
-    requires { ⌜ o + n ≤ length (now s) ⌝ }
-    ensures { λ r. ⌜ r ≡ fields.zeroBytes (now (s .entry)) o n ⌝ }
-{
-    let mut zero = true;
-    let mut i = 0;
-    while i < n {
-        zero = zero & (s[o + i] == 0);
-        i += 1;
-    }
-    zero
 }
 
 fn uses_offset(law: u8) -> bool
@@ -275,65 +264,42 @@ fn rel_names(m: usize, s: &[u8], r: usize) -> bool
     a & (b & (!used | third))
 }
 
-// A NaN is within no limit.
-fn within(limit: f64, x: f64) -> bool
-    ensures { λ r. ⌜ r ≡ limits.within limit x ⌝ }
-{
-    numbers::abs(x) <= limit
-}
-
-fn double_within(limit: f64, s: &[u8], o: usize) -> bool
-    requires { ⌜ o + 8 ≤ length (now s) ⌝ }
-    ensures { λ r. ⌜ r ≡ limits.within limit (fields.doubleAt (now (s .entry)) o) ⌝ }
-{
-    within(limit, double_at(s, o))
-}
-
-fn vec_within(limit: f64, s: &[u8], o: usize) -> bool
-    requires { ⌜ o + 24 ≤ length (now s) ⌝ }
-    ensures { λ r. ⌜ r ≡ limits.withinV limit (fields.vecAt (now (s .entry)) o) ⌝ }
-{
-    let x = double_within(limit, s, o);
-    let y = double_within(limit, s, o + 8);
-    let z = double_within(limit, s, o + 16);
-    x & (y & z)
-}
-
 fn body_limits(s: &[u8], o: usize) -> bool
     requires { ⌜ o + 136 ≤ length (now s) ⌝ }
     ensures { λ r. ⌜ r ≡ spec.bodyLimits (now (s .entry)) o ⌝ }
 {
-    let origin = vec_within(THOUSAND, s, o + 8);
-    let x = vec_within(UNIT_LIMIT, s, o + 32);
-    let y = vec_within(UNIT_LIMIT, s, o + 56);
-    let z = vec_within(UNIT_LIMIT, s, o + 80);
-    let center = vec_within(THOUSAND, s, o + 104);
-    let size = double_within(THOUSAND, s, o + 128);
-    origin & (x & (y & (z & (center & size))))
+    let origin = vec_over(THOUSAND, s, o + 8);
+    let x = vec_over(UNIT_LIMIT, s, o + 32);
+    let y = vec_over(UNIT_LIMIT, s, o + 56);
+    let z = vec_over(UNIT_LIMIT, s, o + 80);
+    let center = vec_over(THOUSAND, s, o + 104);
+    let size = double_over(THOUSAND, s, o + 128);
+    none_over(origin | (x | (y | (z | (center | size)))))
 }
 
-fn end_limits(s: &[u8], e: usize) -> bool
+// Tells whether doubles of the end are over their limits.
+fn end_over(s: &[u8], e: usize) -> u64
     requires { ⌜ e + 72 ≤ length (now s) ⌝ }
-    ensures { λ r. ⌜ r ≡ spec.endLimits (now (s .entry)) e ⌝ }
+    ensures { λ r. ⌜ Tells r (spec.endLimits (now (s .entry)) e) ⌝ }
 {
-    let point = vec_within(THOUSAND, s, e + 8);
-    let direction = vec_within(UNIT_LIMIT, s, e + 32);
-    let circle_radius = double_within(THOUSAND, s, e + 56);
-    let end_radius = double_within(THOUSAND, s, e + 64);
-    point & (direction & (circle_radius & end_radius))
+    let point = vec_over(THOUSAND, s, e + 8);
+    let direction = vec_over(UNIT_LIMIT, s, e + 32);
+    let circle_radius = double_over(THOUSAND, s, e + 56);
+    let end_radius = double_over(THOUSAND, s, e + 64);
+    point | (direction | (circle_radius | end_radius))
 }
 
 fn rel_limits(s: &[u8], r: usize) -> bool
     requires { ⌜ r + 264 ≤ length (now s) ⌝ }
     ensures { λ w. ⌜ w ≡ spec.relLimits (now (s .entry)) r ⌝ }
 {
-    let offset = double_within(THOUSAND, s, r + 8);
-    let angle = double_within(THOUSAND, s, r + 16);
-    let reference = vec_within(UNIT_LIMIT, s, r + 24);
-    let a = end_limits(s, r + 48);
-    let b = end_limits(s, r + 120);
-    let third = end_limits(s, r + 192);
-    offset & (angle & (reference & (a & (b & third))))
+    let offset = double_over(THOUSAND, s, r + 8);
+    let angle = double_over(THOUSAND, s, r + 16);
+    let reference = vec_over(UNIT_LIMIT, s, r + 24);
+    let a = end_over(s, r + 48);
+    let b = end_over(s, r + 120);
+    let third = end_over(s, r + 192);
+    none_over(offset | (angle | (reference | (a | (b | third)))))
 }
 
 pub fn body_fault(s: &[u8], o: usize) -> u32

@@ -34,23 +34,24 @@ pub fn u16_at(s: &[u8], o: usize) -> u64
 
 pub fn u32_at(s: &[u8], o: usize) -> u64
     requires { ⌜ o + 4 ≤ length (now s) ⌝ }
-    ensures { λ r. ⌜ r ≡ spec.u32At (now (s .entry)) o ⌝ }
+    ensures { λ r. ⌜ (r ≡ spec.u32At (now (s .entry)) o) × (r < 0x1_0000_0000) ⌝ }
 {
     wide(s[o]) + wide(s[o + 1]) * 0x100 + wide(s[o + 2]) * 0x1_0000 + wide(s[o + 3]) * 0x100_0000
+}
+
+// The number of the first eight bytes, by halves: the compiler makes one load of it.
+fn first_u64(s: &[u8]) -> u64
+    requires { ⌜ 8 ≤ length (now s) ⌝ }
+    ensures { λ r. ⌜ r ≡ spec.u64At (now (s .entry)) 0 ⌝ }
+{
+    u32_at(s, 0) + u32_at(s, 4) * 0x1_0000_0000
 }
 
 pub fn u64_at(s: &[u8], o: usize) -> u64
     requires { ⌜ o + 8 ≤ length (now s) ⌝ }
     ensures { λ r. ⌜ r ≡ spec.u64At (now (s .entry)) o ⌝ }
 {
-    wide(s[o])
-        + wide(s[o + 1]) * 0x100
-        + wide(s[o + 2]) * 0x1_0000
-        + wide(s[o + 3]) * 0x100_0000
-        + wide(s[o + 4]) * 0x1_0000_0000
-        + wide(s[o + 5]) * 0x100_0000_0000
-        + wide(s[o + 6]) * 0x1_0000_0000_0000
-        + wide(s[o + 7]) * 0x100_0000_0000_0000
+    first_u64(&s[o..])
 }
 
 // The double that a bit pattern stands for. Every NaN pattern is the one NaN.
