@@ -3,10 +3,11 @@
 # the program target/bin/report. Each must be there and built after the last change of the crates' sources. The oracle is built from
 # tenon's unchanged sources (build.sh) and held to document 01's examples and to the frozen lists. Sheets with gears, which tenon does not
 # have, are compared with the second program's rows (src/gear.rs), put into a copy of tenon; the sixth call, which writes a sheet and which
-# tenon does not have either, with a second writer (src/writing.rs). Every comparison prints how much it
-# compared. Ends with 0 if nothing differs and every kind of case that is wanted was met.
+# tenon does not have either, with a second writer (src/writing.rs); the number that opening a sheet gives, on sheets with any byte changed,
+# with the oracle's own reader (src/sheet.rs). Every comparison prints how much it compared. Ends with 0 if nothing differs and every kind of
+# case that is wanted was met.
 # Where tenon's sources or rustc are missing it says that nothing was compared, and ends with 0, or with 1 if CI is set.
-# Takes 60 to 130 s on two cores, by what else they do.
+# Takes 65 to 180 s on two cores, by what else they do.
 set -u
 cd "$(dirname "$0")" || exit 2
 failed=0
@@ -113,6 +114,7 @@ step build/oracle sheet 2 8000
 step limits
 step build/oracle run-report ../tools/report.sh 3 300
 step build/oracle gears 6 600 ../tools/report.sh
+step build/oracle opening
 step build/oracle write 4 12000 ../examples/*.sheet
 step lists_and_rows
 step build/oracle arcs 2000000

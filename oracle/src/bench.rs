@@ -1,9 +1,10 @@
-//! Time per call of the linked arcs, root, `solve` and `dof` beside Rust's own on the same arguments, and of writing beside the second writer,
-//! in one run. Not a test.
+//! Time per call of the linked arcs, root, `solve` and `dof` beside Rust's own on the same arguments, of opening a sheet beside the oracle's own
+//! reader, and of writing beside the second writer, in one run. Not a test.
 
 use crate::answer::Call;
 use crate::rng::Rng;
-use crate::{port, whole, writing};
+use crate::{port, sheet, whole, writing};
+use std::hint::black_box;
 
 pub fn run() -> bool {
     let mut rng = Rng(1);
@@ -31,7 +32,7 @@ pub fn run() -> bool {
     true
 }
 
-/// `solve` and `dof` on each sheet, both sides from its bytes on; then writing its scene, tests included.
+/// Opening each sheet, 200 times a run; `solve` and `dof` on it, both sides from its bytes on; writing its scene, tests included.
 pub fn sheets(files: &[&str]) -> bool {
     let lots = 2_000_000;
     let mut scratch = vec![f64::NAN; lots];
@@ -39,26 +40,30 @@ pub fn sheets(files: &[&str]) -> bool {
         let bytes = std::fs::read(file).unwrap();
         let m = u16::from_le_bytes([bytes[2], bytes[3]]) as usize;
         let k = u16::from_le_bytes([bytes[4], bytes[5]]) as usize;
+        let opened = |f: &dyn Fn()| milliseconds(&mut || (0..200).for_each(|_| f())) * 1000.0 / 200.0;
+        let theirs = opened(&|| drop(black_box(sheet::read(&bytes))));
+        let ours = opened(&|| _ = black_box(port::opening(&bytes)));
+        println!("open   {m:2} bodies, {k:3} relations: {ours:9.3} us   Rust {theirs:9.3} us   ratio {:.2}", ours / theirs);
         let calls = [
-            ("solve", Call::Solve { drag: crate::sheet::GROUND, scratch: lots, poses: 12 * m, frames: 12 * m, errors: k }),
+            ("solve", Call::Solve { drag: sheet::GROUND, scratch: lots, poses: 12 * m, frames: 12 * m, errors: k }),
             ("dof", Call::Dof { scratch: lots, freedoms: 29 * m }),
         ];
         for (name, call) in calls {
             let theirs = milliseconds(&mut || {
-                std::hint::black_box(whole::answer(&bytes, call)).ok();
+                black_box(whole::answer(&bytes, call)).ok();
             });
             let ours = milliseconds(&mut || port::run(&bytes, call, &mut scratch));
             println!("{name:6} {m:2} bodies, {k:3} relations: {ours:9.3} ms   Rust {theirs:9.3} ms   ratio {:.2}", ours / theirs);
         }
         let scene = writing::apart(&bytes);
-        let mut sheet = vec![0; bytes.len()];
+        let mut written = vec![0; bytes.len()];
         let theirs = milliseconds(&mut || {
-            std::hint::black_box((writing::by_reading(&scene, bytes.len()), writing::laid(&scene)));
+            black_box((writing::by_reading(&scene, bytes.len()), writing::laid(&scene)));
         });
         let ours = milliseconds(&mut || {
-            port::write(scene.m, scene.k, &scene.bytes, &scene.words, &scene.numbers, &mut sheet);
+            port::write(scene.m, scene.k, &scene.bytes, &scene.words, &scene.numbers, &mut written);
         });
-        assert_eq!(sheet, bytes);
+        assert_eq!(written, bytes);
         println!("write  {m:2} bodies, {k:3} relations: {ours:9.3} ms   Rust {theirs:9.3} ms   ratio {:.2}", ours / theirs);
     }
     true
@@ -79,7 +84,6 @@ fn milliseconds(f: &mut dyn FnMut()) -> f64 {
 
 /// The best of nine runs over all arguments.
 fn nanoseconds(first: &[f64], second: &[f64], f: &dyn Fn(f64, f64) -> f64) -> f64 {
-    use std::hint::black_box;
     let once = || {
         let start = std::time::Instant::now();
         for (a, b) in first.iter().zip(second) {

@@ -11,6 +11,7 @@ mod examples;
 mod gears;
 mod generate;
 mod lists;
+mod opening;
 mod port;
 mod rng;
 mod scenes;
@@ -56,11 +57,12 @@ oracle cover SEED N           all calls on N valid and N damaged sheets, the lim
 oracle examples               document 01's own examples, asked of the oracle
 oracle arcs N                 the linked root, sine, cosine and arctangent at their edges and on about 5N arguments
 oracle bench                  time per call of the linked arcs and root beside Rust's own
-oracle bench FILE..           time of the linked `solve` and `dof` on these sheets beside the Rust's
+oracle bench FILE..           time of the linked opening, `solve`, `dof` and writing on these sheets beside the Rust's
 oracle sheet SEED N           the linked sheet library against the Rust on N valid and N damaged sheets
 oracle limits FILE..          the same at the limits of bodies, relations and rows, and on the sheets in these files
 oracle run-report PROGRAM SEED N    the program report against the Rust
 oracle gears SEED N [PROGRAM] the sheet library, and the program report, on gears: 8N rows, N valid and N damaged sheets
+oracle opening                the number that the sheet library's opening gives against the oracle's own reader's, on sheets changed in any byte
 oracle write SEED N FILE..    the sheet library's writing against the second writer: N scenes, fields changed, limits, the sheets in these files
 oracle lists DIR [SCALE]      the frozen lists (FORMATS.md); SCALE above 1 makes longer ones";
 
@@ -85,6 +87,7 @@ fn main() {
         ["run-report", program, seed, n] => compare::report(program, number(seed) as u64, number(n)),
         ["gears", seed, n] => gears::run(number(seed) as u64, number(n), None),
         ["gears", seed, n, program] => gears::run(number(seed) as u64, number(n), Some(program)),
+        ["opening"] => opening::run(),
         ["write", seed, n, ref files @ ..] => scenes::run(number(seed) as u64, number(n), files),
         ["bench"] => bench::run(),
         ["bench", ref files @ ..] => bench::sheets(files),

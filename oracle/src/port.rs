@@ -49,6 +49,12 @@ pub fn write(m: u16, k: u16, bytes: &[u8], words: &[u16], numbers: &[u64], sheet
     unsafe { sheet_write(m, k, b, bytes.len(), w, words.len(), n, numbers.len(), sheet.as_mut_ptr(), sheet.len()) }
 }
 
+/// The number that opening a sheet gives, that of tests 1 to 7 and 14, or 0: judging a relation that no sheet has gives it, and 13 for 0.
+pub fn opening(bytes: &[u8]) -> u32 {
+    let number = unsafe { sheet_judge(bytes.as_ptr(), bytes.len(), u16::MAX) };
+    if number == 13 { 0 } else { number }
+}
+
 /// `solve` or `dof` with this scratch, for its time; the answer is dropped.
 pub fn run(bytes: &[u8], call: Call, scratch: &mut [f64]) {
     let (sheet, len) = (bytes.as_ptr(), bytes.len());

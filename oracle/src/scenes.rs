@@ -9,9 +9,9 @@ use crate::trains::{self, ORDER};
 use crate::writing::{Field, Place, Rule, Scene, apart, by_fields, by_reading, laid};
 use crate::{generate, port};
 
-const ENDS: [&str; 3] = ["a", "b", "the third end"];
+pub const ENDS: [&str; 3] = ["a", "b", "the third end"];
 const SLICES: [&str; 3] = ["bytes", "words", "numbers"];
-const MINUS: u64 = 1 << 63;
+pub const MINUS: u64 = 1 << 63;
 /// NaNs of both signs, quiet and not, with few and with many bits.
 const NANS: [u64; 6] = [0x7FF8000000000000, 0xFFF8000000000000, 0x7FF0000000000001, 0xFFF0000000000001, 0x7FFFFFFFFFFFFFFF, 0xFFF7FFFFFFFFFFFE];
 
@@ -23,7 +23,7 @@ pub struct Case<'a> {
     pub kinds: Vec<String>,
 }
 
-fn said(number: u32) -> String {
+pub fn said(number: u32) -> String {
     if number == 0 { "accepted".into() } else { format!("refused {number}") }
 }
 
