@@ -39,7 +39,7 @@ pub fn u32_at(s: &[u8], o: usize) -> u64
     wide(s[o]) + wide(s[o + 1]) * 0x100 + wide(s[o + 2]) * 0x1_0000 + wide(s[o + 3]) * 0x100_0000
 }
 
-// The number of the first eight bytes, by halves: the compiler makes one load of it.
+// The number of the first eight bytes, by halves, so that it compiles to one load.
 fn first_u64(s: &[u8]) -> u64
     requires { ⌜ 8 ≤ length (now s) ⌝ }
     ensures { λ r. ⌜ r ≡ spec.u64At (now (s .entry)) 0 ⌝ }
