@@ -3,64 +3,8 @@
 
 use std::time::Instant;
 
-/// A library's calls, by the beginning of their names.
-macro_rules! library {
-    ($name:ident, $prefix:literal) => {
-        mod $name {
-            unsafe extern "C" {
-                #[link_name = concat!($prefix, "_judge")]
-                pub fn judge(sheet: *const u8, sheet_len: usize, relation: u16) -> u32;
-                #[link_name = concat!($prefix, "_joint_reading")]
-                pub fn joint_reading(sheet: *const u8, sheet_len: usize, relation: u16, offset: *mut f64, angle: *mut f64) -> u32;
-                #[link_name = concat!($prefix, "_snap")]
-                pub fn snap(sheet: *const u8, sheet_len: usize, relation: u16, motion: *mut f64, motion_len: usize) -> u32;
-                #[link_name = concat!($prefix, "_solve")]
-                pub fn solve(
-                    sheet: *const u8,
-                    sheet_len: usize,
-                    drag: u16,
-                    scratch: *mut f64,
-                    scratch_len: usize,
-                    poses: *mut f64,
-                    poses_len: usize,
-                    frames: *mut f64,
-                    frames_len: usize,
-                    errors: *mut f64,
-                    errors_len: usize,
-                    converged: *mut u8,
-                ) -> u32;
-                #[link_name = concat!($prefix, "_dof")]
-                pub fn dof(
-                    sheet: *const u8,
-                    sheet_len: usize,
-                    scratch: *mut f64,
-                    scratch_len: usize,
-                    freedoms: *mut f64,
-                    freedoms_len: usize,
-                    free: *mut u32,
-                ) -> u32;
-            }
-
-            /// Makes a call, by its place among `CALLS`; gives its number.
-            pub fn call(which: usize, sheet: &[u8], lent: &mut crate::Lent) -> u32 {
-                let (s, n) = (sheet.as_ptr(), sheet.len());
-                let [m, k] = crate::counts(sheet);
-                let [scratch, first, second, third] = lent.doubles.each_mut().map(|slice| slice.as_mut_ptr());
-                let [all, ..] = lent.doubles.each_ref().map(|slice| slice.len());
-                unsafe {
-                    match which {
-                        0 => judge(s, n, k as u16),
-                        1 => judge(s, n, 0),
-                        2 => joint_reading(s, n, 0, first, second),
-                        3 => snap(s, n, 0, first, 12),
-                        4 => solve(s, n, u16::MAX, scratch, all, first, 12 * m, second, 12 * m, third, k, &mut lent.converged),
-                        _ => dof(s, n, scratch, all, first, 29 * m, &mut lent.free),
-                    }
-                }
-            }
-        }
-    };
-}
+#[macro_use]
+mod library;
 library!(now, "sheet");
 library!(other, "other");
 
@@ -94,8 +38,28 @@ fn counts(sheet: &[u8]) -> [usize; 2] {
     [2, 4].map(|at| u16::from_le_bytes([sheet[at], sheet[at + 1]]) as usize)
 }
 
+/// A call of a library, by its place among `CALLS`; gives its number.
 type Library = fn(usize, &[u8], &mut Lent) -> u32;
-const LIBRARIES: [Library; 2] = [now::call, other::call];
+macro_rules! calls {
+    ($library:ident) => {
+        |which, sheet, lent| {
+            let (s, n) = (sheet.as_ptr(), sheet.len());
+            let [m, k] = counts(sheet);
+            let [scratch, first, second, third] = lent.doubles.each_mut().map(|slice| slice.as_mut_ptr());
+            unsafe {
+                match which {
+                    0 => $library::judge(s, n, k as u16),
+                    1 => $library::judge(s, n, 0),
+                    2 => $library::joint_reading(s, n, 0, first, second),
+                    3 => $library::snap(s, n, 0, first, 12),
+                    4 => $library::solve(s, n, u16::MAX, scratch, SCRATCH, first, 12 * m, second, 12 * m, third, k, &mut lent.converged),
+                    _ => $library::dof(s, n, scratch, SCRATCH, first, 29 * m, &mut lent.free),
+                }
+            }
+        }
+    };
+}
+const LIBRARIES: [Library; 2] = [calls!(now), calls!(other)];
 
 /// The best time of a call in microseconds, of each library. They take turns, for two seconds and at least five times, with as many calls a turn as
 /// take about a millisecond.

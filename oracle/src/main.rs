@@ -1,6 +1,9 @@
 //! The oracle: answers of the Rust, sheets to ask it about, and comparisons with the port.
 //! `oracle` alone prints the commands.
 
+#[macro_use]
+mod library;
+
 mod answer;
 mod arguments;
 mod bench;

@@ -2,56 +2,17 @@
 
 use crate::answer::{Answer, Call, bits};
 
-unsafe extern "C" {
-    fn sheet_judge(sheet: *const u8, sheet_len: usize, relation: u16) -> u32;
-    fn sheet_joint_reading(sheet: *const u8, sheet_len: usize, relation: u16, offset: *mut f64, angle: *mut f64) -> u32;
-    fn sheet_snap(sheet: *const u8, sheet_len: usize, relation: u16, motion: *mut f64, motion_len: usize) -> u32;
-    fn sheet_solve(
-        sheet: *const u8,
-        sheet_len: usize,
-        drag: u16,
-        scratch: *mut f64,
-        scratch_len: usize,
-        poses: *mut f64,
-        poses_len: usize,
-        frames: *mut f64,
-        frames_len: usize,
-        errors: *mut f64,
-        errors_len: usize,
-        converged: *mut u8,
-    ) -> u32;
-    fn sheet_dof(
-        sheet: *const u8,
-        sheet_len: usize,
-        scratch: *mut f64,
-        scratch_len: usize,
-        freedoms: *mut f64,
-        freedoms_len: usize,
-        free: *mut u32,
-    ) -> u32;
-    fn sheet_write(
-        m: u16,
-        k: u16,
-        bytes: *const u8,
-        bytes_len: usize,
-        words: *const u16,
-        words_len: usize,
-        numbers: *const f64,
-        numbers_len: usize,
-        sheet: *mut u8,
-        sheet_len: usize,
-    ) -> u32;
-}
+library!(linked, "sheet");
 
 /// The number that writing a scene gives; its sheet is put to the slice. The numbers are given by their bits, so that a NaN keeps its own.
 pub fn write(m: u16, k: u16, bytes: &[u8], words: &[u16], numbers: &[u64], sheet: &mut [u8]) -> u32 {
     let (b, w, n) = (bytes.as_ptr(), words.as_ptr(), numbers.as_ptr().cast::<f64>());
-    unsafe { sheet_write(m, k, b, bytes.len(), w, words.len(), n, numbers.len(), sheet.as_mut_ptr(), sheet.len()) }
+    unsafe { linked::write(m, k, b, bytes.len(), w, words.len(), n, numbers.len(), sheet.as_mut_ptr(), sheet.len()) }
 }
 
 /// The number that opening a sheet gives, that of tests 1 to 7 and 14, or 0: judging a relation that no sheet has gives it, and 13 for 0.
 pub fn opening(bytes: &[u8]) -> u32 {
-    let number = unsafe { sheet_judge(bytes.as_ptr(), bytes.len(), u16::MAX) };
+    let number = unsafe { linked::judge(bytes.as_ptr(), bytes.len(), u16::MAX) };
     if number == 13 { 0 } else { number }
 }
 
@@ -63,12 +24,12 @@ pub fn run(bytes: &[u8], call: Call, scratch: &mut [f64]) {
         Call::Solve { drag, poses, frames, errors, .. } => {
             let (mut p, mut f, mut e, mut flag) = (vec![0.0; poses], vec![0.0; frames], vec![0.0; errors], 0u8);
             let (p, f, e) = (p.as_mut_ptr(), f.as_mut_ptr(), e.as_mut_ptr());
-            let number = unsafe { sheet_solve(sheet, len, drag, s, n, p, poses, f, frames, e, errors, &mut flag) };
+            let number = unsafe { linked::solve(sheet, len, drag, s, n, p, poses, f, frames, e, errors, &mut flag) };
             assert_eq!(number, 0);
         }
         Call::Dof { freedoms, .. } => {
             let (mut d, mut free) = (vec![0.0; freedoms], 0u32);
-            let number = unsafe { sheet_dof(sheet, len, s, n, d.as_mut_ptr(), freedoms, &mut free) };
+            let number = unsafe { linked::dof(sheet, len, s, n, d.as_mut_ptr(), freedoms, &mut free) };
             assert_eq!(number, 0);
         }
         _ => {}
@@ -101,16 +62,16 @@ pub fn same(bytes: &[u8], call: Call, answer: &Result<Answer, u32>, scratch: &mu
         scratch.resize(scratch.len().max(s + GUARD), f64::NAN);
     }
     match call {
-        Call::Judge { relation } => unsafe { sheet_judge(sheet, len, relation) == number },
+        Call::Judge { relation } => unsafe { linked::judge(sheet, len, relation) == number },
         Call::Reading { relation } => {
             let (mut o, mut a) = (filler(4), filler(3));
-            let got = unsafe { sheet_joint_reading(sheet, len, relation, &mut o, &mut a) };
+            let got = unsafe { linked::joint_reading(sheet, len, relation, &mut o, &mut a) };
             let (wo, wa) = if let Ok(Answer::Reading { offset, angle }) = answer { (*offset, *angle) } else { (filler(4), filler(3)) };
             got == number && bits(o) == bits(wo) && bits(a) == bits(wa)
         }
         Call::Snap { relation, motion } => {
             let mut memory = lent(motion);
-            let got = unsafe { sheet_snap(sheet, len, relation, memory.as_mut_ptr(), motion) };
+            let got = unsafe { linked::snap(sheet, len, relation, memory.as_mut_ptr(), motion) };
             let want = if let Ok(Answer::Snap { motion }) = answer { motion } else { none };
             got == number && holds(&memory, want)
         }
@@ -119,7 +80,7 @@ pub fn same(bytes: &[u8], call: Call, answer: &Result<Answer, u32>, scratch: &mu
             let (mut p, mut f, mut e, mut flag) = (lent(poses), lent(frames), lent(errors), 77u8);
             let got = unsafe {
                 let (p, f, e) = (p.as_mut_ptr(), f.as_mut_ptr(), e.as_mut_ptr());
-                sheet_solve(sheet, len, drag, scratch.as_mut_ptr(), s, p, poses, f, frames, e, errors, &mut flag)
+                linked::solve(sheet, len, drag, scratch.as_mut_ptr(), s, p, poses, f, frames, e, errors, &mut flag)
             };
             got == number
                 && match answer {
@@ -133,7 +94,7 @@ pub fn same(bytes: &[u8], call: Call, answer: &Result<Answer, u32>, scratch: &mu
         Call::Dof { scratch: s, freedoms } => {
             let before = scratch.clone();
             let (mut d, mut total) = (lent(freedoms), 777u32);
-            let got = unsafe { sheet_dof(sheet, len, scratch.as_mut_ptr(), s, d.as_mut_ptr(), freedoms, &mut total) };
+            let got = unsafe { linked::dof(sheet, len, scratch.as_mut_ptr(), s, d.as_mut_ptr(), freedoms, &mut total) };
             got == number
                 && match answer {
                     Ok(Answer::Dof { freedoms, free }) => holds(&d, freedoms) && total == *free && untouched(scratch, &before, s),
