@@ -19,7 +19,7 @@ use Rattle.arcs.specs.RootSteps.{field, significand, exponent}
 use Rattle.arcs.proofs.Values.{le-values}
 use Rattle.arcs.proofs.root.Bits.{bits-value, significand-low, significand-normal, exponent-is}
 use Rattle.format.specs.Words.{Tells}
-use Rattle.format.proofs.WordLaws.{same}
+use Rattle.format.proofs.RefusalLaws.{same}
 
 -- ---- the magnitude of a double has its bits without the sign
 
@@ -39,65 +39,63 @@ unfolding ofFields
 abs-fields s zero t = abs-odd 53 s t 0 1074
 abs-fields s (suc x) t = abs-cond (eqb (suc x) 2047) (eqb t 0) s (odd 53 s (2 ^ 52 + t) x 1074) (odd 53 false (2 ^ 52 + t) x 1074) (abs-odd 53 s (2 ^ 52 + t) x 1074)
 
-plus : (a : ℕ) → a < 2 ^ 63 → leb (2 ^ 63) a ≡ false
-plus a h = lt-leb (2 ^ 63) a h
-
 abs-bits : (n : ℕ) → abs (ofBits binary64 n) ≡ ofBits binary64 (n % 2 ^ 63)
 unfolding ofBits
 abs-bits n =
     let below : n % 2 ^ 63 < 2 ^ 63 = omega arith in
     let again : n % 2 ^ 63 % 2 ^ 63 ≡ n % 2 ^ 63 = omega arith in
     let rest : n % 2 ^ 63 % 2 ^ 52 ≡ n % 2 ^ 52 = omega arith in
-    abs-fields (leb (2 ^ 63) n) (n % 2 ^ 63 / 2 ^ 52) (n % 2 ^ 52) ∙ rw (plus (n % 2 ^ 63) below, again, rest)
+    abs-fields (leb (2 ^ 63) n) (n % 2 ^ 63 / 2 ^ 52) (n % 2 ^ 52) ∙ rw (lt-leb (2 ^ 63) (n % 2 ^ 63) below, again, rest)
 
 -- ---- what significand and exponent make grows with the bits
 
-abbrev size : ℕ → ℕ
-size b = significand b * 2 ^ exponent b
+-- in units of 2 ^ -1074
+abbrev magnitude : ℕ → ℕ
+magnitude b = significand b * 2 ^ exponent b
 
 -- at the same field the fractions decide
 same-field : (z : Bool) (t u : ℕ) → t < u → cond z t (2 ^ 52 + t) < cond z u (2 ^ 52 + u)
 same-field true t u h = h
 same-field false t u h = omega arith
 
-grows-same : (a b : ℕ) → field a ≡ field b → a % 2 ^ 52 < b % 2 ^ 52 → size a < size b
+grows-same : (a b : ℕ) → field a ≡ field b → a % 2 ^ 52 < b % 2 ^ 52 → magnitude a < magnitude b
 unfolding significand exponent
 grows-same a b e h = rw e (mul-lt-mul-of-pos-right (same-field (eqb (field b) 0) (a % 2 ^ 52) (b % 2 ^ 52) h) (pow-pos (field b - 1)))
 
--- a higher field is at least twice what the lower one reaches
+-- what a lower field reaches is below what a higher one begins with
 apart : (s m p t q : ℕ) → 0 < p → s < m → m * p ≤ 2 ^ 52 * q → 2 ^ 52 ≤ t → s * p < t * q
 apart s m p t q P h k l = lt-of-lt-of-le (mul-lt-mul-of-pos-right h P) (le-trans k (mul-le-mul-right q l))
 
 twice : (p q : ℕ) → p * 2 ≤ q → 2 ^ 53 * p ≤ 2 ^ 52 * q
 twice p q h = omega arith
 
-grows-apart : (a b : ℕ) → field a < field b → size a < size b
+grows-apart : (a b : ℕ) → field a < field b → magnitude a < magnitude b
 grows-apart a b h = go (field a) refl
   where
     upper : 2 ^ 52 ≤ significand b
     upper = omega (arith, significand-normal b (omega arith))
 
-    go : (x : ℕ) → field a ≡ x → size a < size b
+    go : (x : ℕ) → field a ≡ x → magnitude a < magnitude b
     go zero e = apart (significand a) (2 ^ 52) (2 ^ exponent a) (significand b) (2 ^ exponent b) (pow-pos (exponent a)) (omega (arith, significand-low a e)) (mul-le-mul-left (2 ^ 52) (pow-mono (omega (arith, exponent-is a, exponent-is b)))) upper
     go (suc x) e =
         apart (significand a) (2 ^ 53) (2 ^ exponent a) (significand b) (2 ^ exponent b) (pow-pos (exponent a)) (omega (arith, significand-normal a (omega arith)))
         (twice (2 ^ exponent a) (2 ^ exponent b) (subst (λ (z : ℕ). z ≤ 2 ^ exponent b) (pow-suc 2 (exponent a)) (pow-mono {i = suc (exponent a)} {j = exponent b} (omega (arith, exponent-is a, exponent-is b))))) upper
 
-grows : (a b : ℕ) → a < b → b < 2 ^ 63 → size a < size b
+grows : (a b : ℕ) → a < b → b < 2 ^ 63 → magnitude a < magnitude b
 grows a b h l =
     let fields : field a ≤ field b = omega arith in
     ⊎-elim (λ (e : field a ≡ field b). grows-same a b e (omega arith)) (λ (k : field a < field b). grows-apart a b k) (eq-or-lt-of-le fields)
 
-size-order : (a b : ℕ) → a < 2 ^ 63 → b < 2 ^ 63 → leb (size a) (size b) ≡ leb a b
-size-order a b h l = go (leb a b) refl
+magnitude-order : (a b : ℕ) → a < 2 ^ 63 → b < 2 ^ 63 → leb (magnitude a) (magnitude b) ≡ leb a b
+magnitude-order a b h l = go (leb a b) refl
   where
-    go : (z : Bool) → leb a b ≡ z → leb (size a) (size b) ≡ z
+    go : (z : Bool) → leb a b ≡ z → leb (magnitude a) (magnitude b) ≡ z
     go true e =
-        ⊎-elim (λ (k : a ≡ b). le-leb (size a) (size b) (rw k (le-refl (size b)))) (λ (k : a < b). le-leb (size a) (size b) (le-of-lt (grows a b k l)))
+        ⊎-elim (λ (k : a ≡ b). le-leb (magnitude a) (magnitude b) (rw k (le-refl (magnitude b)))) (λ (k : a < b). le-leb (magnitude a) (magnitude b) (le-of-lt (grows a b k l)))
         (eq-or-lt-of-le (leb-true a b e))
-    go false e = lt-leb (size a) (size b) (grows b a (leb-false a b e) h)
+    go false e = lt-leb (magnitude a) (magnitude b) (grows b a (leb-false a b e) h)
 
--- ---- numbers that are not negative compare as their sizes do
+-- ---- numbers that are not negative compare as their magnitudes do
 
 le-by-value : (x y : Float) (a b c : ℕ) → 0 < c → HasValue x false a c → HasValue y false b c → le x y ≡ leb a b
 le-by-value x y a b c C p q =
@@ -114,12 +112,12 @@ not-below z (inf t) b c q = absurd q
 not-below true (fin t n d) b c q = refl
 not-below false (fin t n d) b c q = refl
 
-finite-value : (b : ℕ) → b < 0x7FF0_0000_0000_0000 → HasValue (ofBits binary64 b) false (size b) (2 ^ 1074)
-finite-value b h = subst (λ (s : Bool). HasValue (ofBits binary64 b) s (size b) (2 ^ 1074)) (plus b (omega arith)) (bits-value b (omega arith))
+finite-value : (b : ℕ) → b < 0x7FF0_0000_0000_0000 → HasValue (ofBits binary64 b) false (magnitude b) (2 ^ 1074)
+finite-value b h = subst (λ (s : Bool). HasValue (ofBits binary64 b) s (magnitude b) (2 ^ 1074)) (lt-leb (2 ^ 63) b (omega arith)) (bits-value b (omega arith))
 
 top-bits : (a : ℕ) → a < 2 ^ 63 → 0x7FF0_0000_0000_0000 ≤ a → ofBits binary64 a ≡ cond (eqb (a % 2 ^ 52) 0) (inf false) nan
 unfolding ofBits ofFields
-top-bits a h k = let e : a % 2 ^ 63 / 2 ^ 52 ≡ 2047 = omega arith in rw (plus a h, e)
+top-bits a h k = let e : a % 2 ^ 63 / 2 ^ 52 ≡ 2047 = omega arith in rw (lt-leb (2 ^ 63) a h, e)
 
 le-bits : (a b : ℕ) → a < 2 ^ 63 → b < 0x7FF0_0000_0000_0000 → le (ofBits binary64 a) (ofBits binary64 b) ≡ leb a b
 le-bits a b h l = go (leb 0x7FF0_0000_0000_0000 a) refl
@@ -127,14 +125,14 @@ le-bits a b h l = go (leb 0x7FF0_0000_0000_0000 a) refl
     go : (z : Bool) → leb 0x7FF0_0000_0000_0000 a ≡ z → le (ofBits binary64 a) (ofBits binary64 b) ≡ leb a b
     go true e =
         let k = leb-true 0x7FF0_0000_0000_0000 a e in
-        rw (top-bits a h k) (not-below (eqb (a % 2 ^ 52) 0) (ofBits binary64 b) (size b) (2 ^ 1074) (finite-value b l) ∙ sym (lt-leb a b (omega arith)))
+        rw (top-bits a h k) (not-below (eqb (a % 2 ^ 52) 0) (ofBits binary64 b) (magnitude b) (2 ^ 1074) (finite-value b l) ∙ sym (lt-leb a b (omega arith)))
     go false e =
         let k = leb-false 0x7FF0_0000_0000_0000 a e in
-        le-by-value (ofBits binary64 a) (ofBits binary64 b) (size a) (size b) (2 ^ 1074) (pow-pos 1074) (finite-value a k) (finite-value b l)
-        ∙ size-order a b h (omega arith)
+        le-by-value (ofBits binary64 a) (ofBits binary64 b) (magnitude a) (magnitude b) (2 ^ 1074) (pow-pos 1074) (finite-value a k) (finite-value b l)
+        ∙ magnitude-order a b h (omega arith)
 
 -- the limit by its bits, and the bits of any double
-within-bits : (limit n : ℕ) → limit < 0x7FF0_0000_0000_0000 → within (ofBits binary64 limit) (ofBits binary64 n) ≡ leb (n % 2 ^ 63) limit
+pub within-bits : (limit n : ℕ) → limit < 0x7FF0_0000_0000_0000 → within (ofBits binary64 limit) (ofBits binary64 n) ≡ leb (n % 2 ^ 63) limit
 unfolding within
 within-bits limit n h = rw (abs-bits n) (le-bits (n % 2 ^ 63) limit (omega arith) h)
 

@@ -1,4 +1,5 @@
--- The tests taken one more record at a time, what no fault says of each record, and what a header that passes says of the sheet's length. Assumes nothing.
+-- The tests taken one more record at a time, what no fault says of each record, tests that are the same or joined, and what a header that passes says of the sheet's length.
+-- Assumes nothing.
 use mathlib.Core.Path.{_≡_, refl, sym, subst, _∙_}
 use mathlib.Core.Bool.{Bool, true, false, _&&_, cond}
 use mathlib.Core.List.{List}
@@ -73,7 +74,12 @@ pub rel-named : (m : ℕ) (s : List ℕ) (r : ℕ) → relFault m s r ≡ 0 → 
 unfolding relFault
 rel-named m s r h = four (relShape s r) (relTeeth s r) (relNames m s r) (relLimits s r) h .1
 
--- ---- two tests joined
+-- ---- two tests that pass together are the same; two tests joined
+
+pub same : (a b : Bool) → (a ≡ true → b ≡ true) → (b ≡ true → a ≡ true) → a ≡ b
+same true b h k = sym (h refl)
+same false true h k = k refl
+same false false h k = refl
 
 pub and-left : (a b : Bool) → a && b ≡ true → a ≡ true
 and-left true b h = refl
@@ -82,6 +88,9 @@ and-left false b h = h
 pub and-right : (a b : Bool) → a && b ≡ true → b ≡ true
 and-right true b h = h
 and-right false b h = cc
+
+pub and-both : (a b : Bool) → a ≡ true → b ≡ true → a && b ≡ true
+and-both a b h k = rw (h, k)
 
 -- ---- the header
 

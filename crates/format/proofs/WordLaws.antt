@@ -11,17 +11,8 @@ use lib.Dec.{eqb, eqb·suc-zero}
 use lib.Bits.{bitOr, or-lt, or-add-and, and-le-l, and-le-r}
 use borrow.Author.Tests.{ltb-true, lt-ltb, ne-eqb}
 use Rattle.records.specs.Record.{byteAt, u64At, zeroBytes}
-use Rattle.format.specs.Words.{Tells, low}
-use Rattle.format.proofs.RefusalLaws.{and-left, and-right}
-
--- two tests that pass together are the same
-pub same : (x y : Bool) → (x ≡ true → y ≡ true) → (y ≡ true → x ≡ true) → x ≡ y
-same true y h k = sym (h refl)
-same false true h k = k refl
-same false false h k = refl
-
-and-both : (x y : Bool) → x ≡ true → y ≡ true → x && y ≡ true
-and-both x y h k = rw (h, k)
+use Rattle.format.specs.Words.{Tells, belowSign}
+use Rattle.format.proofs.RefusalLaws.{same, and-left, and-right, and-both}
 
 -- ---- zeros
 
@@ -62,14 +53,14 @@ zero-words-more s o i z h = let e : 8 * (i + 1) ≡ 8 * i + 8 = omega arith in r
 
 -- ---- limits
 
-or-low : (a b : ℕ) → low (bitOr a b) ≡ low a && low b
-or-low a b =
-    same (low (bitOr a b)) (low a && low b)
+or-below : (a b : ℕ) → belowSign (bitOr a b) ≡ belowSign a && belowSign b
+or-below a b =
+    same (belowSign (bitOr a b)) (belowSign a && belowSign b)
     (λ h.
     let l = ltb-true (bitOr a b) (2 ^ 63) h in
-    and-both (low a) (low b) (lt-ltb a (2 ^ 63) (omega (arith, l, or-add-and a b, and-le-r a b))) (lt-ltb b (2 ^ 63) (omega (arith, l, or-add-and a b, and-le-l a b))))
-    (λ h. lt-ltb (bitOr a b) (2 ^ 63) (or-lt 63 a b (ltb-true a (2 ^ 63) (and-left (low a) (low b) h)) (ltb-true b (2 ^ 63) (and-right (low a) (low b) h))))
+    and-both (belowSign a) (belowSign b) (lt-ltb a (2 ^ 63) (omega (arith, l, or-add-and a b, and-le-r a b))) (lt-ltb b (2 ^ 63) (omega (arith, l, or-add-and a b, and-le-l a b))))
+    (λ h. lt-ltb (bitOr a b) (2 ^ 63) (or-lt 63 a b (ltb-true a (2 ^ 63) (and-left (belowSign a) (belowSign b) h)) (ltb-true b (2 ^ 63) (and-right (belowSign a) (belowSign b) h))))
 
 -- joined, two words tell what each of them tells
 pub both : {a b : ℕ} {p q : Bool} → Tells a p → Tells b q → Tells (bitOr a b) (p && q)
-both {a} {b} h k = record { told = rw (or-low a b, h .told, k .told) }
+both {a} {b} h k = record { told = rw (or-below a b, h .told, k .told) }

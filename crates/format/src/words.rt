@@ -7,7 +7,7 @@ ghost use lib.ListN.{length};
 ghost use lib.Ieee.{binary64, ofBits};
 ghost use Rattle.records.specs.Record as fields;
 ghost use Rattle.records.specs.Limits as limits;
-ghost use Rattle.format.specs.Words.{Tells, low};
+ghost use Rattle.format.specs.Words.{Tells, belowSign};
 
 // The sign among the bits of a double, the highest of a word.
 const SIGN: u64 = 0x8000_0000_0000_0000;
@@ -65,7 +65,7 @@ pub fn vec_over(limit: u64, s: &[u8], o: usize) -> u64
 
 // Whether no double is over its limit, of those that the word tells of.
 pub fn none_over(w: u64) -> bool
-    ensures { λ r. ⌜ r ≡ low w ⌝ }
+    ensures { λ r. ⌜ r ≡ belowSign w ⌝ }
 {
     w < SIGN
 }

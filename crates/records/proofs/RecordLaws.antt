@@ -1,4 +1,4 @@
--- A bit pattern is a NaN's or not by one comparison; what the tables by number give for a byte. Assumes nothing.
+-- A bit pattern is a NaN's or not by one comparison; the first eight bytes of the part from a place on are those at the place; what the tables by number give for a byte. Assumes nothing.
 use mathlib.Core.Path.{_≡_, refl, sym, ap, subst, _∙_}
 use mathlib.Core.Bool.{Bool, not}
 use mathlib.Core.List.{List}
