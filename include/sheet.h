@@ -17,9 +17,10 @@
  *   12  judging: a tangent's ends are not round, or not round with a plane
  *   13  the sheet has no such relation
  *   14  a wheel of a gear has 0 teeth, or more than 400
+ *   15  a parameter of sheet_solve_with is a NaN or outside its range
  *
  * Tests 1 to 4 come first, then each body in order by 5 and 7, then each relation in order by 5, 14, 6 and 7, then 13, 8, 11,
- * 12, 10, 9. A test of what a call does not take is skipped. sheet_write has an order of its own, below.
+ * 12, 15, 10, 9. A test of what a call does not take is skipped. sheet_write has an order of its own, below.
  *
  * Nothing is kept after a call, and no memory is taken: a call reads the sheet, or what it writes a sheet from, and writes
  * only where its output and scratch pointers point. No pointer may be null, no output or scratch may overlap what the call
@@ -63,9 +64,31 @@ uint32_t sheet_snap(const uint8_t *sheet, size_t sheet_len, uint16_t relation, d
  *   converged  one byte: 1 if every error is at most 1e-9, else 0
  *
  * Another drag is refused by 8, short poses, frames or errors by 10, and short scratch by 9. What stands in poses, frames and
- * errors past these lengths is kept. */
+ * errors past these lengths is kept. The work ends after at most two runs of 200 rounds. */
 uint32_t sheet_solve(const uint8_t *sheet, size_t sheet_len, uint16_t drag, double *scratch, size_t scratch_len, double *poses,
                      size_t poses_len, double *frames, size_t frames_len, double *errors, size_t errors_len, uint8_t *converged);
+
+/* sheet_solve, with what it otherwise takes as given; the ends of each range are in it.
+ *
+ *   tolerance    1e-12 to 1e-3: a run ends where every row is at most this, and converged is 1 exactly if every error is.
+ *                sheet_solve takes 1e-9.
+ *   rounds       1 to 1000: the most rounds of a run; there are at most two runs. sheet_solve takes 200.
+ *   row_limit    1 to 800: with more rows than this no round is made; the bodies stay where they are, or are turned slightly
+ *                if that brings the largest row down. sheet_solve takes 800.
+ *   drag_weight  1 to 1e8: how many times as much the dragged body weighs as without a drag. With 1 it gives way as any other,
+ *                with 1e8 it hardly moves. sheet_solve takes 10000.
+ *
+ * For a class of beginners 1e-3 is enough: 1 then says that no relation is off by more than a micrometre, or a thousandth of
+ * its other unit, and the work ends earlier. For finishing, 1e-12: 1 then says that every row is at most that, and 0 may mean
+ * no more than that doubles do not come so near at this size; the errors tell how near they came. Every error is told as
+ * sheet_solve tells it, whatever the tolerance.
+ *
+ * A parameter that is a NaN or outside its range is refused by 15, after 8 and before 10 and 9. All else is as for
+ * sheet_solve, and with 1e-9, 200, 800 and 10000 so is the answer, bit for bit. */
+uint32_t sheet_solve_with(const uint8_t *sheet, size_t sheet_len, uint16_t drag, double tolerance, uint32_t rounds,
+                          uint32_t row_limit, double drag_weight, double *scratch, size_t scratch_len, double *poses,
+                          size_t poses_len, double *frames, size_t frames_len, double *errors, size_t errors_len,
+                          uint8_t *converged);
 
 /* What freedom each body has with the others held still at the sheet's frames, and how much freedom the whole assembly has.
  * m and k are the sheet's numbers of bodies and relations.

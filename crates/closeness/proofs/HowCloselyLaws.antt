@@ -16,16 +16,15 @@ use lib.Ieee.{Float, nan, inf, fin, up, down, lt, eq, le, isNan, ofBits}
 use lib.Ieee.Bits.{is-true}
 use lib.Ieee.Fits.{and-l, and-r, down-pos}
 use lib.Ieee.Order.{le-of-values}
-use lib.Ieee.Positive.{through}
+use lib.Ieee.Positive.{positive, between, through}
 use Rattle.numbers.specs.Double.{zero64, isFinite, abs, fmax}
 use Rattle.numbers.proofs.DoubleLaws.{zero-value}
 use Rattle.numbers.specs.MaxAbs.{maxAbsStep, maxAbs}
-use Rattle.vectors.specs.Tol.{ASSEMBLY}
 use Rattle.relations.specs.Geometry.{Pose}
 use Rattle.relations.specs.Model.{Body, Rel, poseOfFrame}
 use Rattle.relations.specs.Rows.{ground}
 use Rattle.least_squares.specs.Lm.{State, Tried, Outcome, listOf, norm2, judged, stepWith, trial, trials, oneRound, rounds, run, inverseWeight}
-use Rattle.scene.specs.Solve.{Scene, named, moves, layoutFrom, unknowns, poseAt, posesFrom, posesAt, rowsAt, allRows, rowsOf, weights, startAt, slightTurn, MAX-ITER, runFrom, better, solved, solve}
+use Rattle.scene.specs.Solve.{Scene, named, moves, layoutFrom, unknowns, poseAt, posesFrom, posesAt, rowsAt, allRows, rowsOf, Parameters, FINEST, COARSEST, fromTo, inRange, weights, startAt, slightTurn, runFrom, better, solved, solveWith}
 use Rattle.closeness.proofs.RowBoundLaws.{error-bound}
 use Rattle.closeness.specs.HowClosely.{allWithin, Closeness, roundsOf, RoundsEnd}
 
@@ -49,7 +48,7 @@ module _ (f : List Float → List Float) (winv : List Float) (tol : Float) where
   unfolding rounds
   rounds-most zero done s = omega arith
   rounds-most (suc k) done s =
-      let t = oneRound f winv tol s in
+      let t = oneRound f winv s in
       let next = rounds-most k (suc done) (t .state) in
       either (λ (o : Outcome). o .rounds ≤ done + suc k) (le (maxAbs (t .state .r)) tol) _ _ (λ e. omega arith)
       (λ e. either (λ (o : Outcome). o .rounds ≤ done + suc k) (t .better) _ _ (λ g. omega arith) (λ g. omega arith))
@@ -57,23 +56,23 @@ module _ (f : List Float → List Float) (winv : List Float) (tol : Float) where
   first-rounds : (k : ℕ) (s : State) → rounds f winv tol k 0 s .rounds ≤ k
   first-rounds k s = omega (arith, rounds-most k 0 s)
 
-  pub run-rounds : (most : ℕ) (x : List Float) → run f winv tol most x .rounds ≤ most
+  pub run-rounds : (most limit : ℕ) (x : List Float) → run f winv tol most limit x .rounds ≤ most
   unfolding run
-  run-rounds most x =
+  run-rounds most limit x =
       either (λ (o : Outcome). o .rounds ≤ most) (eqb (length (f x)) 0 || le (maxAbs (f x)) tol) _ _ (λ e. omega arith)
-      (λ e. either (λ (o : Outcome). o .rounds ≤ most) (eqb (length x) 0 || ltb 800 (length (f x))) _ _ (λ g. omega arith) (λ g. first-rounds most _))
+      (λ e. either (λ (o : Outcome). o .rounds ≤ most) (eqb (length x) 0 || ltb limit (length (f x))) _ _ (λ g. omega arith) (λ g. first-rounds most _))
 
 pub rounds-end : RoundsEnd
 unfolding roundsOf
-rounds-end s drag =
-    let winv = map inverseWeight (weights s drag) in
-    let a = run-rounds (rowsOf s) winv ASSEMBLY MAX-ITER (listOf startAt (unknowns s)) in
-    let b = run-rounds (rowsOf s) winv ASSEMBLY MAX-ITER (listOf slightTurn (unknowns s)) in
-    either (λ (n : ℕ). n ≤ 2 * MAX-ITER) (runFrom s drag (listOf startAt (unknowns s)) .converged || eqb (unknowns s) 0) _ _ (λ e. omega arith) (λ e. omega arith)
+rounds-end s p drag =
+    let winv = map inverseWeight (weights s (p .dragWeight) drag) in
+    let a = run-rounds (rowsOf s) winv (p .tolerance) (p .rounds) (p .rowLimit) (listOf startAt (unknowns s)) in
+    let b = run-rounds (rowsOf s) winv (p .tolerance) (p .rounds) (p .rowLimit) (listOf slightTurn (unknowns s)) in
+    either (λ (n : ℕ). n ≤ 2 * p .rounds) (runFrom s p drag (listOf startAt (unknowns s)) .converged || eqb (unknowns s) 0) _ _ (λ e. omega arith) (λ e. omega arith)
 
 -- ---- a state's rows are those of its unknowns
 
-module _ (f : List Float → List Float) (winv : List Float) (tol : Float) where
+module _ (f : List Float → List Float) (winv : List Float) where
   abbrev Own : State → Type 0
   Own s = s .r ≡ f (s .x)
 
@@ -81,41 +80,42 @@ module _ (f : List Float → List Float) (winv : List Float) (tol : Float) where
   unfolding judged
   judged-own s xn h = picked (λ (t : Tried). Own (t .state)) (isFinite (norm2 (f xn)) && lt (norm2 (f xn)) (s .cost)) _ _ (λ e. refl) (λ e. h)
 
-  step-own : (jac : List Float) (rows : ℕ) (s : State) (y : Option (List Float)) → Own s → Own (stepWith f winv tol jac rows s y .state)
+  step-own : (jac : List Float) (rows : ℕ) (s : State) (y : Option (List Float)) → Own s → Own (stepWith f winv jac rows s y .state)
   unfolding stepWith
   step-own jac rows s none h = h
   step-own jac rows s (some y) h = judged-own s _ h
 
-  trial-own : (jac a : List Float) (rows : ℕ) (s : State) → Own s → Own (trial f winv tol jac a rows s .state)
+  trial-own : (jac a : List Float) (rows : ℕ) (s : State) → Own s → Own (trial f winv jac a rows s .state)
   unfolding trial
   trial-own jac a rows s h = step-own jac rows s _ h
 
-  trials-own : (jac a : List Float) (rows k : ℕ) (s : State) → Own s → Own (trials f winv tol jac a rows k s .state)
+  trials-own : (jac a : List Float) (rows k : ℕ) (s : State) → Own s → Own (trials f winv jac a rows k s .state)
   unfolding trials
   trials-own jac a rows zero s h = h
   trials-own jac a rows (suc k) s h =
-      let t = trial f winv tol jac a rows s in
+      let t = trial f winv jac a rows s in
       let g = trial-own jac a rows s h in
       let next = trials-own jac a rows k (t .state) g in
       either (λ (t : Tried). Own (t .state)) (t .better) _ _ (λ e. g) (λ e. next)
 
-  round-own : (s : State) → Own s → Own (oneRound f winv tol s .state)
+  round-own : (s : State) → Own s → Own (oneRound f winv s .state)
   unfolding oneRound
   round-own s h = trials-own _ _ _ 12 s h
 
+module _ (f : List Float → List Float) (winv : List Float) (tol : Float) where
   -- an outcome tells of its own unknowns whether their rows are within the tolerance
   abbrev Told : Outcome → Type 0
   Told o = o .converged ≡ le (maxAbs (f (o .x))) tol
 
-  told : (s : State) → Own s → le (maxAbs (s .r)) tol ≡ le (maxAbs (f (s .x))) tol
+  told : (s : State) → Own f winv s → le (maxAbs (s .r)) tol ≡ le (maxAbs (f (s .x))) tol
   told s h = ap (λ (r : List Float). le (maxAbs r) tol) h
 
-  rounds-told : (k done : ℕ) (s : State) → Own s → Told (rounds f winv tol k done s)
+  rounds-told : (k done : ℕ) (s : State) → Own f winv s → Told (rounds f winv tol k done s)
   unfolding rounds
   rounds-told zero done s h = told s h
   rounds-told (suc k) done s h =
-      let t = oneRound f winv tol s in
-      let g = round-own s h in
+      let t = oneRound f winv s in
+      let g = round-own f winv s h in
       let next = rounds-told k (suc done) (t .state) g in
       either Told (le (maxAbs (t .state .r)) tol) _ _ (λ e. sym e ∙ told (t .state) g) (λ e. either Told (t .better) _ _ (λ b. next) (λ b. sym e ∙ told (t .state) g))
 
@@ -123,11 +123,11 @@ module _ (f : List Float → List Float) (winv : List Float) (tol : Float) where
   none-within [] z e = unfold maxAbs in sym z
   none-within (a ∷ r) z e = sym (rw eqb·suc-zero at e)
 
-  pub run-converged : le zero64 tol ≡ true → (most : ℕ) (x : List Float) → run f winv tol most x .converged ≡ le (maxAbs (f (run f winv tol most x .x))) tol
+  pub run-converged : le zero64 tol ≡ true → (most limit : ℕ) (x : List Float) → run f winv tol most limit x .converged ≡ le (maxAbs (f (run f winv tol most limit x .x))) tol
   unfolding run
-  run-converged z most x =
+  run-converged z most limit x =
       either Told (eqb (length (f x)) 0 || le (maxAbs (f x)) tol) _ _ (none-within (f x) z)
-      (λ e. either Told (eqb (length x) 0 || ltb 800 (length (f x))) _ _ (λ g. sym (or-false (eqb (length (f x)) 0) _ e)) (λ g. rounds-told most 0 _ refl))
+      (λ e. either Told (eqb (length x) 0 || ltb limit (length (f x))) _ _ (λ g. sym (or-false (eqb (length (f x)) 0) _ e)) (λ g. rounds-told most 0 _ refl))
 
 -- ---- the largest magnitude is within a tolerance where every entry is
 
@@ -286,28 +286,39 @@ append-within tol p v w = rw (max-abs-within tol p (v ++ w), max-abs-within tol 
 
 -- ---- an answer is converged where every error is within the tolerance
 
-assembly : T (tolerance ASSEMBLY)
-unfolding ofBits
-assembly = tt
-
-pub within-all : (poses : List (Pose Float)) (rels : List Rel) → le (maxAbs (allRows poses rels)) ASSEMBLY ≡ allWithin (map (λ rel. maxAbs (rowsAt poses rel)) rels)
+pub within-all : (tol : Float) → T (tolerance tol) → (poses : List (Pose Float)) (rels : List Rel)
+    → le (maxAbs (allRows poses rels)) tol ≡ allWithin tol (map (λ rel. maxAbs (rowsAt poses rel)) rels)
 unfolding allRows allWithin maxAbs
-within-all poses [] = zero-tolerance ASSEMBLY assembly
-within-all poses (rel ∷ rels) =
-    append-within ASSEMBLY assembly (rowsAt poses rel) (allRows poses rels) ∙ ap (λ (t : Bool). le (maxAbs (rowsAt poses rel)) ASSEMBLY && t) (within-all poses rels)
+within-all tol t poses [] = zero-tolerance tol t
+within-all tol t poses (rel ∷ rels) =
+    append-within tol t (rowsAt poses rel) (allRows poses rels) ∙ ap (λ (b : Bool). le (maxAbs (rowsAt poses rel)) tol && b) (within-all tol t poses rels)
 
 better-keeps : (P : Outcome → Type 0) (s : Scene) (first retry : Outcome) → P first → P retry → P (better s first retry)
 unfolding better
 better-keeps P s first retry h k = picked P (retry .converged || lt (maxAbs (rowsOf s (retry .x))) (maxAbs (rowsOf s (first .x)))) retry first (λ e. k) (λ e. h)
 
-pub solved-converged : (s : Scene) (drag : Option ℕ) → solved s drag .converged ≡ le (maxAbs (rowsOf s (solved s drag .x))) ASSEMBLY
+pub solved-converged : (s : Scene) (p : Parameters) (drag : Option ℕ) → T (tolerance (p .tolerance)) → solved s p drag .converged ≡ le (maxAbs (rowsOf s (solved s p drag .x))) (p .tolerance)
 unfolding solved
-solved-converged s drag =
-    let P : Outcome → Type 0 = Told (rowsOf s) (map inverseWeight (weights s drag)) ASSEMBLY in
-    let z = zero-tolerance ASSEMBLY assembly in
-    let first = run-converged (rowsOf s) (map inverseWeight (weights s drag)) ASSEMBLY z MAX-ITER (listOf startAt (unknowns s)) in
-    let retry = run-converged (rowsOf s) (map inverseWeight (weights s drag)) ASSEMBLY z MAX-ITER (listOf slightTurn (unknowns s)) in
-    either P (runFrom s drag (listOf startAt (unknowns s)) .converged || eqb (unknowns s) 0) _ _ (λ e. first) (λ e. better-keeps P s _ _ first retry)
+solved-converged s p drag t =
+    let winv = map inverseWeight (weights s (p .dragWeight) drag) in
+    let P : Outcome → Type 0 = Told (rowsOf s) winv (p .tolerance) in
+    let z = zero-tolerance (p .tolerance) t in
+    let first = run-converged (rowsOf s) winv (p .tolerance) z (p .rounds) (p .rowLimit) (listOf startAt (unknowns s)) in
+    let retry = run-converged (rowsOf s) winv (p .tolerance) z (p .rounds) (p .rowLimit) (listOf slightTurn (unknowns s)) in
+    either P (runFrom s p drag (listOf startAt (unknowns s)) .converged || eqb (unknowns s) 0) _ _ (λ e. first) (λ e. better-keeps P s _ _ first retry)
+
+-- a tolerance in its range is a finite number that is not negative
+from-range : (x : Float) → T (positive x) → T (tolerance x)
+from-range nan t = t
+from-range (inf s) t = t
+from-range (fin true m e) t = t
+from-range (fin false m e) t = tt
+
+pub range-tolerance : (p : Parameters) → inRange p ≡ true → T (tolerance (p .tolerance))
+unfolding inRange ofBits
+range-tolerance p e =
+    let t = and-l (fromTo FINEST COARSEST (p .tolerance)) _ (holds _ e) in
+    from-range (p .tolerance) (between FINEST (p .tolerance) COARSEST tt tt (and-l (le FINEST (p .tolerance)) _ t) (and-r (le FINEST (p .tolerance)) _ t))
 
 -- ---- a body that has no unknowns
 
@@ -345,11 +356,12 @@ getD-map-in f (a ∷ l) zero d e h = refl
 getD-map-in f (a ∷ l) (suc j) d e h = getD-map-in f l j d e (le-of-suc-le-suc h)
 
 pub how-closely : Closeness
-unfolding solve
-how-closely s drag small =
-    let poses = posesAt s (solved s drag .x) in
+unfolding solveWith
+how-closely s p drag range small =
+    let poses = posesAt s (solved s p drag .x) in
+    let t = range-tolerance p range in
     record {
-      converged = solved-converged s drag ∙ within-all poses (s .rels);
-      still = λ i d h e. let p = still-pose s (solved s drag .x) i d h e in (p ∙ sym (still-pose s (listOf startAt (unknowns s)) i d h e), p);
+      converged = solved-converged s p drag t ∙ within-all (p .tolerance) t poses (s .rels);
+      still = λ i d h e. let w = still-pose s (solved s p drag .x) i d h e in (w ∙ sym (still-pose s (listOf startAt (unknowns s)) i d h e), w);
       closely = λ j d h x near. rw (getD-map-in (λ rel. maxAbs (rowsAt poses rel)) (s .rels) j d nan h) (error-bound (getD (s .rels) j d) poses x (small j d h) near);
     }

@@ -10,27 +10,26 @@ use lib.ListN.{length, getD}
 use lib.Dec.{eqb}
 use lib.Ieee.{Float, nan, le}
 use Rattle.numbers.specs.Differs.{Differs-by-at-most}
-use Rattle.vectors.specs.Tol.{ASSEMBLY}
 use Rattle.relations.specs.Geometry.{Pose}
 use Rattle.relations.specs.Model.{Body, Rel, poseOfFrame}
 use Rattle.relations.specs.Rows.{ground}
 use Rattle.least_squares.specs.Lm.{Outcome, listOf}
-use Rattle.scene.specs.Solve.{Scene, Solution, names, named, unknowns, posesAt, startAt, slightTurn, runFrom, MAX-ITER, solve}
+use Rattle.scene.specs.Solve.{Scene, Solution, Parameters, inRange, names, named, unknowns, posesAt, startAt, slightTurn, runFrom, solveWith}
 use Rattle.closeness.specs.RowBound.{TEN-MILLION, smallPose, smallRel, exactLaw, unroundedError}
 
--- every error is at most 1e-9, its nearest double
-unfoldable pub allWithin : List Float → Bool
-allWithin [] = true
-allWithin (e ∷ errors) = le e ASSEMBLY && allWithin errors
+-- every error is at most the tolerance
+unfoldable pub allWithin : Float → List Float → Bool
+allWithin tol [] = true
+allWithin tol (e ∷ errors) = le e tol && allWithin tol errors
 
 -- The starting poses (document 01's term): those that `solve` forms from the sheet alone, before round one.
 abbrev pub startingPoses : Scene → List (Pose Float)
 startingPoses s = posesAt s (listOf startAt (unknowns s))
 
--- Of an answer, P being its poses:
-pub record HowClosely (s : Scene) (a : Solution) : Type 0 where
-  -- it is converged exactly when every reported error is at most 1e-9
-  pub converged : a .converged ≡ allWithin (a .errors)
+-- Of an answer that was asked for by a tolerance, P being its poses:
+pub record HowClosely (s : Scene) (tol : Float) (a : Solution) : Type 0 where
+  -- it is converged exactly when every reported error is at most the tolerance; without a choice that is 1e-9, its nearest double
+  pub converged : a .converged ≡ allWithin tol (a .errors)
   -- a body that is fixed or not named has its starting pose in P, which is its frame's
   pub still : (i : ℕ) (d : Body) → i < length (s .bodies) → (getD (s .bodies) i d .fixed ≡ true) ⊎ (named (s .rels) i ≡ false)
       → (getD (a .poses) i ground ≡ getD (startingPoses s) i ground) × (getD (a .poses) i ground ≡ poseOfFrame (getD (s .bodies) i d .frame))
@@ -45,18 +44,18 @@ abbrev pub AllSmall : Scene → Type 0
 AllSmall s = (j : ℕ) (d : Rel) → j < length (s .rels) → smallRel (getD (s .rels) j d) ≡ true
 
 abbrev pub Closeness : Type 0
-Closeness = (s : Scene) (drag : Option ℕ) → AllSmall s → HowClosely s (solve s drag)
+Closeness = (s : Scene) (p : Parameters) (drag : Option ℕ) → inRange p ≡ true → AllSmall s → HowClosely s (p .tolerance) (solveWith s p drag)
 
 -- ---- how many rounds `solve` takes: those of the first run and, where there is one, of the retry
 
-unfoldable pub roundsOf : Scene → Option ℕ → ℕ
-roundsOf s drag =
-    let first = runFrom s drag (listOf startAt (unknowns s)) in
+unfoldable pub roundsOf : Scene → Parameters → Option ℕ → ℕ
+roundsOf s p drag =
+    let first = runFrom s p drag (listOf startAt (unknowns s)) in
     elim (first .converged || eqb (unknowns s) 0) [
       | true ↦ first .rounds
-      | false ↦ first .rounds + runFrom s drag (listOf slightTurn (unknowns s)) .rounds
+      | false ↦ first .rounds + runFrom s p drag (listOf slightTurn (unknowns s)) .rounds
     ]
 
--- at most two runs of 200 rounds
+-- at most two runs of the chosen rounds
 abbrev pub RoundsEnd : Type 0
-RoundsEnd = (s : Scene) (drag : Option ℕ) → roundsOf s drag ≤ 2 * MAX-ITER
+RoundsEnd = (s : Scene) (p : Parameters) (drag : Option ℕ) → roundsOf s p drag ≤ 2 * p .rounds

@@ -228,7 +228,7 @@ pub record Outcome : Type 0 where
   pub converged : Bool
   pub rounds : ℕ
 
-module _ (f : List Float → List Float) (winv : List Float) (tol : Float) where
+module _ (f : List Float → List Float) (winv : List Float) where
   -- the step from an answer of `solve_dense`; none stiffens
   unfoldable pub stepWith : List Float → ℕ → State → Option (List Float) → Tried
   stepWith jac rows s none = stiffer s
@@ -251,11 +251,12 @@ module _ (f : List Float → List Float) (winv : List Float) (tol : Float) where
       let jac = jacobian f (s .x) rows in
       trials jac (normal jac winv (length (s .x)) rows) rows 12 s
 
+module _ (f : List Float → List Float) (winv : List Float) (tol : Float) where
   -- At most k rounds, after `done` ones. A run ends where its rows are within the tolerance, or a round brings nothing better.
   unfoldable pub rounds : ℕ → ℕ → State → Outcome
   rounds zero done s = record { x = s .x; converged = le (maxAbs (s .r)) tol; rounds = done }
   rounds (suc k) done s =
-      let t = oneRound s in
+      let t = oneRound f winv s in
       let w = t .state in
       elim (le (maxAbs (w .r)) tol) [
         | true ↦ record { x = w .x; converged = true; rounds = suc done }
@@ -266,14 +267,14 @@ module _ (f : List Float → List Float) (winv : List Float) (tol : Float) where
             ]
       ]
 
-  -- `solve`: at most `most` rounds from x, with the damping 1e-10 at first; over 800 rows there is none
-  unfoldable pub run : ℕ → List Float → Outcome
-  run most x =
+  -- `solve`: at most `most` rounds from x, with the damping 1e-10 at first; over `limit` rows there is none
+  unfoldable pub run : ℕ → ℕ → List Float → Outcome
+  run most limit x =
       let r = f x in
       elim (eqb (length r) 0 || le (maxAbs r) tol) [
         | true ↦ record { x = x; converged = true; rounds = 0 }
         | false ↦
-            elim (eqb (length x) 0 || ltb 800 (length r)) [
+            elim (eqb (length x) 0 || ltb limit (length r)) [
               | true ↦ record { x = x; converged = false; rounds = 0 }
               | false ↦ rounds most 0 (record { x = x; r = r; cost = norm2 r; mu = ofBits binary64 0x3DDB_7CDF_D9D7_BDBB })
             ]

@@ -12,7 +12,6 @@ use lib.Seq.{take-suc, getD-drop}
 use lib.Dec.{eqb}
 use lib.Ieee.{Float, lt}
 use Rattle.numbers.specs.MaxAbs.{maxAbs}
-use Rattle.vectors.specs.Tol.{ASSEMBLY}
 use Rattle.vectors.specs.Space.{Frame}
 use Rattle.vectors.specs.Math.{frameOf}
 use Rattle.relations.specs.Geometry.{Pose, frameOr}
@@ -24,7 +23,7 @@ use Rattle.records.specs.Record.{bodyAt, relAt}
 use Rattle.scene.specs.Scene.{sceneIn}
 use Rattle.relations.specs.Rows as Rows
 use Rattle.scene.specs.Scene.{Put, RowsAt, sceneOf, poseIn, posesIn, posesDoubles, relRows}
-use Rattle.scene.specs.Solve.{Scene, layout, unknowns, posesAt, rowsAt, rowsOf, weights, startAt, slightTurn, MAX-ITER, runFrom, better, solved, solve, frameAt, framesFrom}
+use Rattle.scene.specs.Solve.{Scene, layout, unknowns, posesAt, rowsAt, rowsOf, Parameters, weights, startAt, slightTurn, runFrom, better, solved, solveWith, frameAt, framesFrom}
 use Rattle.judging.proofs.CountLaws.{rows-packed}
 use Rattle.relations.specs.declared.rows.Rows.{Rows as RowsStruct}
 use Rattle.scene.specs.declared.scene.Scene.{Scene as SceneStruct}
@@ -147,26 +146,26 @@ worst-is sc c p s t x r y e = record { told = e ∙ ap maxAbs (y .holds); size =
 worst-part : (sc : Scene) (c : SceneStruct) (p : PartsStruct) (s t : List Float) (x : ℕ) (r : Float) (o k : ℕ) → o + k ≤ p .ahead → Worst sc c p s t x r → part t o k ≡ part s o k
 worst-part sc c p s t x r o k h y = taken-part s t (p .ahead) o k (y .size) (y .below) h
 
-abbrev pub retryOf : Scene → SceneStruct → PartsStruct → List Float → Outcome
-retryOf sc c p s = run (rowsOf sc) (weightsIn c p s) ASSEMBLY MAX-ITER (listOf slightTurn (c .n))
+abbrev pub retryOf : Scene → SceneStruct → PartsStruct → Parameters → List Float → Outcome
+retryOf sc c p q s = run (rowsOf sc) (weightsIn c p s) (q .tolerance) (q .rounds) (q .rowLimit) (listOf slightTurn (c .n))
 
 -- the second run has ended, from the scratch s of the first run's end
-pub record Again (sc : Scene) (c : SceneStruct) (p : PartsStruct) (s t : List Float) (ok : Bool) : Type 0 where
-  pub told : ok ≡ retryOf sc c p s .converged
-  pub unknowns-are : unknownsIn c p t ≡ retryOf sc c p s .x
+pub record Again (sc : Scene) (c : SceneStruct) (p : PartsStruct) (q : Parameters) (s t : List Float) (ok : Bool) : Type 0 where
+  pub told : ok ≡ retryOf sc c p q s .converged
+  pub unknowns-are : unknownsIn c p t ≡ retryOf sc c p q s .x
   pub first : firstIn c p t ≡ unknownsIn c p s
   pub size : length t ≡ length s
 
-pub again-is : (sc : Scene) (c : SceneStruct) (p : PartsStruct) (s t u v : List Float) (e : RunEndStruct) → Arranged c p (length s) → Copied s t (p .x) (p .first) (c .n)
-    → Put t u (p .x) (c .n) (listOf slightTurn (c .n)) → Ran c p u v (run (rowsOf sc) (weightsIn c p u) ASSEMBLY MAX-ITER (unknownsIn c p u)) e → Again sc c p s v (e .converged)
-again-is sc c p s t u v e a d y r =
+pub again-is : (sc : Scene) (c : SceneStruct) (p : PartsStruct) (q : Parameters) (s t u v : List Float) (e : RunEndStruct) → Arranged c p (length s) → Copied s t (p .x) (p .first) (c .n)
+    → Put t u (p .x) (c .n) (listOf slightTurn (c .n)) → Ran c p u v (run (rowsOf sc) (weightsIn c p u) (q .tolerance) (q .rounds) (q .rowLimit) (unknownsIn c p u)) e → Again sc c p q s v (e .converged)
+again-is sc c p q s t u v e a d y r =
     let w : weightsIn c p u ≡ weightsIn c p s
     = kept-part-above t u (p .x) (p .x + c .n) (p .weights) (c .n) (omega arith) (y .kept)
     ∙ kept-part-above s t (p .first) (p .first + c .n) (p .weights) (c .n) (omega arith) (d .kept) in
-    let o : run (rowsOf sc) (weightsIn c p u) ASSEMBLY MAX-ITER (unknownsIn c p u) ≡ retryOf sc c p s = λ z. run (rowsOf sc) (w z) ASSEMBLY MAX-ITER (y .holds z) in
+    let o : run (rowsOf sc) (weightsIn c p u) (q .tolerance) (q .rounds) (q .rowLimit) (unknownsIn c p u) ≡ retryOf sc c p q s = λ z. run (rowsOf sc) (w z) (q .tolerance) (q .rounds) (q .rowLimit) (y .holds z) in
     record {
-      told = r .told ∙ ap (λ (q : Outcome). q .converged) o;
-      unknowns-are = r .unknowns ∙ ap (λ (q : Outcome). q .x) o;
+      told = r .told ∙ ap (λ (o : Outcome). o .converged) o;
+      unknowns-are = r .unknowns ∙ ap (λ (o : Outcome). o .x) o;
       first = r .keeps .first ∙ kept-part-below t u (p .x) (p .x + c .n) (p .first) (c .n) (a .first) (y .kept) ∙ d .copy;
       size = r .keeps .size ∙ y .kept .size ∙ d .kept .size;
     }
@@ -180,12 +179,12 @@ better-smaller : (sc : Scene) (first retry : Outcome) (a b : Float) (t : Bool) �
 unfolding better
 better-smaller sc first retry a b t h e f g = rw (h, ← e, ← f, g)
 
-module _ (sc : Scene) (c : SceneStruct) (p : PartsStruct) (s v : List Float) (ok : Bool) (first : Outcome) (a : Again sc c p s v ok) where
-  pub retry-converged : ok ≡ true → Ended c p s v (better sc first (retryOf sc c p s)) true
+module _ (sc : Scene) (c : SceneStruct) (p : PartsStruct) (q : Parameters) (s v : List Float) (ok : Bool) (first : Outcome) (a : Again sc c p q s v ok) where
+  pub retry-converged : ok ≡ true → Ended c p s v (better sc first (retryOf sc c p q s)) true
   retry-converged h =
-      let k : retryOf sc c p s .converged ≡ true = sym (a .told) ∙ h in
-      let b = better-converged sc first (retryOf sc c p s) k in
-      record { told = sym k ∙ ap (λ (q : Outcome). q .converged) (sym b); unknowns = a .unknowns-are ∙ ap (λ (q : Outcome). q .x) (sym b); size = a .size }
+      let k : retryOf sc c p q s .converged ≡ true = sym (a .told) ∙ h in
+      let b = better-converged sc first (retryOf sc c p q s) k in
+      record { told = sym k ∙ ap (λ (o : Outcome). o .converged) (sym b); unknowns = a .unknowns-are ∙ ap (λ (o : Outcome). o .x) (sym b); size = a .size }
 
   module _ (w z : List Float) (now before : Float) (f : Arranged c p (length s)) (h : ok ≡ false) (e : first .x ≡ unknownsIn c p s) (m : Worst sc c p v w (p .x) now)
       (n : Worst sc c p w z (p .first) before) where
@@ -195,117 +194,117 @@ module _ (sc : Scene) (c : SceneStruct) (p : PartsStruct) (s v : List Float) (ok
         ∙ a .first
         ∙ sym e
 
-    kept : (t : Bool) → lt now before ≡ t → better sc first (retryOf sc c p s) ≡ cond t (retryOf sc c p s) first
+    kept : (t : Bool) → lt now before ≡ t → better sc first (retryOf sc c p q s) ≡ cond t (retryOf sc c p q s) first
     kept t g =
-        better-smaller sc first (retryOf sc c p s) now before t (sym (a .told) ∙ h) (m .told ∙ ap (λ (q : List Float). maxAbs (rowsOf sc q)) (a .unknowns-are))
+        better-smaller sc first (retryOf sc c p q s) now before t (sym (a .told) ∙ h) (m .told ∙ ap (λ (x : List Float). maxAbs (rowsOf sc x)) (a .unknowns-are))
         (n .told
-        ∙ ap (λ (q : List Float). maxAbs (rowsOf sc q)) (worst-part sc c p v w (p .x) now (p .first) (c .n) (omega arith) m ∙ a .first ∙ sym e))
+        ∙ ap (λ (x : List Float). maxAbs (rowsOf sc x)) (worst-part sc c p v w (p .x) now (p .first) (c .n) (omega arith) m ∙ a .first ∙ sym e))
         g
 
-    pub retry-smaller : lt now before ≡ true → Ended c p s z (better sc first (retryOf sc c p s)) false
+    pub retry-smaller : lt now before ≡ true → Ended c p s z (better sc first (retryOf sc c p q s)) false
     retry-smaller g =
         let b = kept true g in
         record {
-          told = sym h ∙ a .told ∙ ap (λ (q : Outcome). q .converged) (sym b);
+          told = sym h ∙ a .told ∙ ap (λ (o : Outcome). o .converged) (sym b);
           unknowns =
               worst-part sc c p w z (p .first) before (p .x) (c .n) (omega arith) n
               ∙ worst-part sc c p v w (p .x) now (p .x) (c .n) (omega arith) m
               ∙ a .unknowns-are
-              ∙ ap (λ (q : Outcome). q .x) (sym b);
+              ∙ ap (λ (o : Outcome). o .x) (sym b);
           size = n .size ∙ m .size ∙ a .size;
         }
 
-    pub retry-larger : (y : List Float) → first .converged ≡ false → lt now before ≡ false → Copied z y (p .first) (p .x) (c .n) → Ended c p s y (better sc first (retryOf sc c p s)) false
+    pub retry-larger : (y : List Float) → first .converged ≡ false → lt now before ≡ false → Copied z y (p .first) (p .x) (c .n) → Ended c p s y (better sc first (retryOf sc c p q s)) false
     retry-larger y u g d =
         let b = kept false g in
         record {
-          told = sym u ∙ ap (λ (q : Outcome). q .converged) (sym b);
-          unknowns = d .copy ∙ same-first ∙ ap (λ (q : Outcome). q .x) (sym b);
+          told = sym u ∙ ap (λ (o : Outcome). o .converged) (sym b);
+          unknowns = d .copy ∙ same-first ∙ ap (λ (o : Outcome). o .x) (sym b);
           size = d .kept .size ∙ n .size ∙ m .size ∙ a .size;
         }
 
 -- ---- both runs
 
-abbrev pub firstOf : Scene → Option ℕ → Outcome
-firstOf sc drag = runFrom sc drag (listOf startAt (unknowns sc))
+abbrev pub firstOf : Scene → Parameters → Option ℕ → Outcome
+firstOf sc q drag = runFrom sc q drag (listOf startAt (unknowns sc))
 
 -- the first run has ended
-pub record Begun (sc : Scene) (c : SceneStruct) (p : PartsStruct) (drag : Option ℕ) (s t : List Float) (ok : Bool) : Type 0 where
-  pub told : ok ≡ firstOf sc drag .converged
-  pub unknowns-are : unknownsIn c p t ≡ firstOf sc drag .x
-  pub weights-are : weightsIn c p t ≡ map inverseWeight (weights sc drag)
+pub record Begun (sc : Scene) (c : SceneStruct) (p : PartsStruct) (q : Parameters) (drag : Option ℕ) (s t : List Float) (ok : Bool) : Type 0 where
+  pub told : ok ≡ firstOf sc q drag .converged
+  pub unknowns-are : unknownsIn c p t ≡ firstOf sc q drag .x
+  pub weights-are : weightsIn c p t ≡ map inverseWeight (weights sc (q .dragWeight) drag)
   pub size : length t ≡ length s
 
-pub begun-is : (sc : Scene) (c : SceneStruct) (p : PartsStruct) (drag : Option ℕ) (s t u v : List Float) (e : RunEndStruct) → c .n ≡ unknowns sc → Arranged c p (length s)
-    → Put s t (p .weights) (c .n) (map inverseWeight (weights sc drag)) → Put t u (p .x) (c .n) (listOf startAt (c .n))
-    → Ran c p u v (run (rowsOf sc) (weightsIn c p u) ASSEMBLY MAX-ITER (unknownsIn c p u)) e → Begun sc c p drag s v (e .converged)
-begun-is sc c p drag s t u v e k a d y r =
-    let w : weightsIn c p u ≡ map inverseWeight (weights sc drag) = kept-part-above t u (p .x) (p .x + c .n) (p .weights) (c .n) (omega arith) (y .kept) ∙ d .holds in
+pub begun-is : (sc : Scene) (c : SceneStruct) (p : PartsStruct) (q : Parameters) (drag : Option ℕ) (s t u v : List Float) (e : RunEndStruct) → c .n ≡ unknowns sc → Arranged c p (length s)
+    → Put s t (p .weights) (c .n) (map inverseWeight (weights sc (q .dragWeight) drag)) → Put t u (p .x) (c .n) (listOf startAt (c .n))
+    → Ran c p u v (run (rowsOf sc) (weightsIn c p u) (q .tolerance) (q .rounds) (q .rowLimit) (unknownsIn c p u)) e → Begun sc c p q drag s v (e .converged)
+begun-is sc c p q drag s t u v e k a d y r =
+    let w : weightsIn c p u ≡ map inverseWeight (weights sc (q .dragWeight) drag) = kept-part-above t u (p .x) (p .x + c .n) (p .weights) (c .n) (omega arith) (y .kept) ∙ d .holds in
     let x : unknownsIn c p u ≡ listOf startAt (unknowns sc) = y .holds ∙ ap (listOf startAt) k in
-    let o : run (rowsOf sc) (weightsIn c p u) ASSEMBLY MAX-ITER (unknownsIn c p u) ≡ firstOf sc drag = λ z. run (rowsOf sc) (w z) ASSEMBLY MAX-ITER (x z) in
+    let o : run (rowsOf sc) (weightsIn c p u) (q .tolerance) (q .rounds) (q .rowLimit) (unknownsIn c p u) ≡ firstOf sc q drag = λ z. run (rowsOf sc) (w z) (q .tolerance) (q .rounds) (q .rowLimit) (x z) in
     record {
-      told = r .told ∙ ap (λ (q : Outcome). q .converged) o;
-      unknowns-are = r .unknowns ∙ ap (λ (q : Outcome). q .x) o;
+      told = r .told ∙ ap (λ (o : Outcome). o .converged) o;
+      unknowns-are = r .unknowns ∙ ap (λ (o : Outcome). o .x) o;
       weights-are = r .keeps .weights ∙ w;
       size = r .keeps .size ∙ y .kept .size ∙ d .kept .size;
     }
 
 -- by whether the first run is all
-abbrev chosen : Scene → Option ℕ → Bool → Outcome
-chosen sc drag t = elim t [ true ↦ firstOf sc drag | false ↦ better sc (firstOf sc drag) (runFrom sc drag (listOf slightTurn (unknowns sc))) ]
+abbrev chosen : Scene → Parameters → Option ℕ → Bool → Outcome
+chosen sc q drag t = elim t [ true ↦ firstOf sc q drag | false ↦ better sc (firstOf sc q drag) (runFrom sc q drag (listOf slightTurn (unknowns sc))) ]
 
-solved-by : (sc : Scene) (drag : Option ℕ) (a b : Bool) → firstOf sc drag .converged ≡ a → eqb (unknowns sc) 0 ≡ b → solved sc drag ≡ chosen sc drag (a || b)
+solved-by : (sc : Scene) (q : Parameters) (drag : Option ℕ) (a b : Bool) → firstOf sc q drag .converged ≡ a → eqb (unknowns sc) 0 ≡ b → solved sc q drag ≡ chosen sc q drag (a || b)
 unfolding solved
-solved-by sc drag a b h e = λ z. chosen sc drag (h z || e z)
+solved-by sc q drag a b h e = λ z. chosen sc q drag (h z || e z)
 
-solved-converged : (sc : Scene) (drag : Option ℕ) → firstOf sc drag .converged ≡ true → solved sc drag ≡ firstOf sc drag
-solved-converged sc drag h = solved-by sc drag true (eqb (unknowns sc) 0) h refl
+solved-converged : (sc : Scene) (q : Parameters) (drag : Option ℕ) → firstOf sc q drag .converged ≡ true → solved sc q drag ≡ firstOf sc q drag
+solved-converged sc q drag h = solved-by sc q drag true (eqb (unknowns sc) 0) h refl
 
-solved-none : (sc : Scene) (drag : Option ℕ) → firstOf sc drag .converged ≡ false → unknowns sc ≡ 0 → solved sc drag ≡ firstOf sc drag
-solved-none sc drag h e = solved-by sc drag false true h (eq-eqb (unknowns sc) 0 e)
+solved-none : (sc : Scene) (q : Parameters) (drag : Option ℕ) → firstOf sc q drag .converged ≡ false → unknowns sc ≡ 0 → solved sc q drag ≡ firstOf sc q drag
+solved-none sc q drag h e = solved-by sc q drag false true h (eq-eqb (unknowns sc) 0 e)
 
-solved-twice : (sc : Scene) (drag : Option ℕ) → firstOf sc drag .converged ≡ false → (unknowns sc ≡ 0 → ⊥)
-    → solved sc drag ≡ better sc (firstOf sc drag) (runFrom sc drag (listOf slightTurn (unknowns sc)))
-solved-twice sc drag h e = solved-by sc drag false false h (ne-eqb (unknowns sc) 0 e)
+solved-twice : (sc : Scene) (q : Parameters) (drag : Option ℕ) → firstOf sc q drag .converged ≡ false → (unknowns sc ≡ 0 → ⊥)
+    → solved sc q drag ≡ better sc (firstOf sc q drag) (runFrom sc q drag (listOf slightTurn (unknowns sc)))
+solved-twice sc q drag h e = solved-by sc q drag false false h (ne-eqb (unknowns sc) 0 e)
 
-module _ (sc : Scene) (c : SceneStruct) (p : PartsStruct) (drag : Option ℕ) (s v : List Float) (ok : Bool) (k : c .n ≡ unknowns sc) (b : Begun sc c p drag s v ok) where
-  first-ended : (t : Bool) → ok ≡ t → solved sc drag ≡ firstOf sc drag → Ended c p s v (solved sc drag) t
+module _ (sc : Scene) (c : SceneStruct) (p : PartsStruct) (q : Parameters) (drag : Option ℕ) (s v : List Float) (ok : Bool) (k : c .n ≡ unknowns sc) (b : Begun sc c p q drag s v ok) where
+  first-ended : (t : Bool) → ok ≡ t → solved sc q drag ≡ firstOf sc q drag → Ended c p s v (solved sc q drag) t
   first-ended t h e =
-      record { told = sym h ∙ b .told ∙ ap (λ (q : Outcome). q .converged) (sym e); unknowns = b .unknowns-are ∙ ap (λ (q : Outcome). q .x) (sym e); size = b .size }
+      record { told = sym h ∙ b .told ∙ ap (λ (o : Outcome). o .converged) (sym e); unknowns = b .unknowns-are ∙ ap (λ (o : Outcome). o .x) (sym e); size = b .size }
 
-  pub first-converged : ok ≡ true → Ended c p s v (solved sc drag) true
-  first-converged h = first-ended true h (solved-converged sc drag (sym (b .told) ∙ h))
+  pub first-converged : ok ≡ true → Ended c p s v (solved sc q drag) true
+  first-converged h = first-ended true h (solved-converged sc q drag (sym (b .told) ∙ h))
 
-  pub first-still : ok ≡ false → c .n ≡ 0 → Ended c p s v (solved sc drag) false
-  first-still h e = first-ended false h (solved-none sc drag (sym (b .told) ∙ h) (sym k ∙ e))
+  pub first-still : ok ≡ false → c .n ≡ 0 → Ended c p s v (solved sc q drag) false
+  first-still h e = first-ended false h (solved-none sc q drag (sym (b .told) ∙ h) (sym k ∙ e))
 
   pub twice : (w : List Float) (again : Bool) → ok ≡ false → (c .n ≡ 0 → ⊥)
-      → ((first : Outcome) → first .converged ≡ false → first .x ≡ unknownsIn c p v → Ended c p v w (better sc first (retryOf sc c p v)) again) → Ended c p s w (solved sc drag) again
+      → ((first : Outcome) → first .converged ≡ false → first .x ≡ unknownsIn c p v → Ended c p v w (better sc first (retryOf sc c p q v)) again) → Ended c p s w (solved sc q drag) again
   twice w again h e f =
-      let y = f (firstOf sc drag) (sym (b .told) ∙ h) (sym (b .unknowns-are)) in
-      let o : better sc (firstOf sc drag) (retryOf sc c p v) ≡ solved sc drag
-      = (λ z. better sc (firstOf sc drag) (run (rowsOf sc) (b .weights-are z) ASSEMBLY MAX-ITER (listOf slightTurn (k z)))) ∙ sym (solved-twice sc drag (sym (b .told) ∙ h) (λ q. e (k ∙ q))) in
-      record { told = y .told ∙ ap (λ (q : Outcome). q .converged) o; unknowns = y .unknowns ∙ ap (λ (q : Outcome). q .x) o; size = y .size ∙ b .size }
+      let y = f (firstOf sc q drag) (sym (b .told) ∙ h) (sym (b .unknowns-are)) in
+      let o : better sc (firstOf sc q drag) (retryOf sc c p q v) ≡ solved sc q drag
+      = (λ z. better sc (firstOf sc q drag) (run (rowsOf sc) (b .weights-are z) (q .tolerance) (q .rounds) (q .rowLimit) (listOf slightTurn (k z)))) ∙ sym (solved-twice sc q drag (sym (b .told) ∙ h) (λ y. e (k ∙ y))) in
+      record { told = y .told ∙ ap (λ (o : Outcome). o .converged) o; unknowns = y .unknowns ∙ ap (λ (o : Outcome). o .x) o; size = y .size ∙ b .size }
 
 -- ---- what `solve` fills in
 
-pub filled-is : (sheet : List ℕ) (c : SceneStruct) (p : PartsStruct) (drag : Option ℕ) (s t u poses poses' frames frames' errors errors' : List Float) (ok : Bool)
-    → Ended c p s t (solved (sceneOf sheet c) drag) ok → Put t u (p .poses) (12 * c .m) (posesDoubles (posesAt (sceneOf sheet c) (part t (p .x) (c .n))))
+pub filled-is : (sheet : List ℕ) (c : SceneStruct) (p : PartsStruct) (q : Parameters) (drag : Option ℕ) (s t u poses poses' frames frames' errors errors' : List Float) (ok : Bool)
+    → Ended c p s t (solved (sceneOf sheet c) q drag) ok → Put t u (p .poses) (12 * c .m) (posesDoubles (posesAt (sceneOf sheet c) (part t (p .x) (c .n))))
     → poses' ≡ part u (p .poses) (12 * c .m) ++ drop (12 * c .m) poses
     → frames' ≡ framesDoubles (framesFrom (posesIn u (p .poses) (c .m)) (sceneOf sheet c .bodies)) ++ drop (12 * c .m) frames
     → errors' ≡ map (λ (rel : Rel). maxAbs (rowsAt (posesIn u (p .poses) (c .m)) rel)) (sceneOf sheet c .rels) ++ drop (c .k) errors
-    → Filled (sceneOf sheet c) drag (c .m) (c .k) poses poses' frames frames' errors errors' ok
-unfolding solve
-filled-is sheet c p drag s t u poses poses' frames frames' errors errors' ok a y d f e =
+    → Filled (sceneOf sheet c) q drag (c .m) (c .k) poses poses' frames frames' errors errors' ok
+unfolding solveWith
+filled-is sheet c p q drag s t u poses poses' frames frames' errors errors' ok a y d f e =
     let sc = sceneOf sheet c in
-    let there : List (Pose Float) = posesAt sc (solved sc drag .x) in
+    let there : List (Pose Float) = posesAt sc (solved sc q drag .x) in
     let h : part u (p .poses) (12 * c .m) ≡ posesDoubles there = y .holds ∙ ap (λ (x : List Float). posesDoubles (posesAt sc x)) (a .unknowns) in
     let l : length there ≡ c .m
-    = length-poses (solved sc drag .x) (sc .bodies) (layout sc) (length-layout (sc .rels) 0 0 (sc .bodies)) ∙ length-bodies sheet c in
-    let q : posesIn u (p .poses) (c .m) ≡ there = poses-there u (p .poses) (12 * c .m) there h (ap (λ (w : ℕ). 12 * w) l) (c .m) l in
+    = length-poses (solved sc q drag .x) (sc .bodies) (layout sc) (length-layout (sc .rels) 0 0 (sc .bodies)) ∙ length-bodies sheet c in
+    let z : posesIn u (p .poses) (c .m) ≡ there = poses-there u (p .poses) (12 * c .m) there h (ap (λ (w : ℕ). 12 * w) l) (c .m) l in
     record {
       poses-are = d ∙ ap (λ (w : List Float). w ++ drop (12 * c .m) poses) h;
-      frames-are = f ∙ ap (λ (w : List (Pose Float)). framesDoubles (framesFrom w (sc .bodies)) ++ drop (12 * c .m) frames) q;
-      errors-are = e ∙ ap (λ (w : List (Pose Float)). map (λ (rel : Rel). maxAbs (rowsAt w rel)) (sc .rels) ++ drop (c .k) errors) q;
+      frames-are = f ∙ ap (λ (w : List (Pose Float)). framesDoubles (framesFrom w (sc .bodies)) ++ drop (12 * c .m) frames) z;
+      errors-are = e ∙ ap (λ (w : List (Pose Float)). map (λ (rel : Rel). maxAbs (rowsAt w rel)) (sc .rels) ++ drop (c .k) errors) z;
       converged = a .told;
     }

@@ -12,7 +12,7 @@ use Rattle.vectors.specs.Space.{Frame}
 use Rattle.least_squares.specs.Lm.{Outcome}
 use Rattle.least_squares.specs.Memory.{part}
 use Rattle.scene.specs.Scene.{fourDoubles, posesDoubles}
-use Rattle.scene.specs.Solve.{Scene, rowsOf, solved, solve}
+use Rattle.scene.specs.Solve.{Scene, Parameters, rowsOf, solveWith}
 use Rattle.scene.specs.declared.scene.Scene.{Scene as SceneStruct}
 use Rattle.rounds.specs.declared.parts.SolveParts.{SolveParts as PartsStruct}
 
@@ -37,8 +37,8 @@ pub record Ended (c : SceneStruct) (p : PartsStruct) (s t : List Float) (o : Out
   pub size : length t ≡ length s
 
 -- the slices at entry and at exit, of a scene with m bodies and k relations; the scratch is left open
-pub record Filled (sc : Scene) (drag : Option ℕ) (m k : ℕ) (poses poses' frames frames' errors errors' : List Float) (ok : Bool) : Type 0 where
-  pub poses-are : poses' ≡ posesDoubles (solve sc drag .poses) ++ drop (12 * m) poses
-  pub frames-are : frames' ≡ framesDoubles (solve sc drag .frames) ++ drop (12 * m) frames
-  pub errors-are : errors' ≡ solve sc drag .errors ++ drop k errors
-  pub converged : ok ≡ solve sc drag .converged
+pub record Filled (sc : Scene) (q : Parameters) (drag : Option ℕ) (m k : ℕ) (poses poses' frames frames' errors errors' : List Float) (ok : Bool) : Type 0 where
+  pub poses-are : poses' ≡ posesDoubles (solveWith sc q drag .poses) ++ drop (12 * m) poses
+  pub frames-are : frames' ≡ framesDoubles (solveWith sc q drag .frames) ++ drop (12 * m) frames
+  pub errors-are : errors' ≡ solveWith sc q drag .errors ++ drop k errors
+  pub converged : ok ≡ solveWith sc q drag .converged

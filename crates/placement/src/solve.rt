@@ -8,11 +8,10 @@ ghost use Prim.Native.Nat.{ℕ, _+_, _*_, _≤_, _<_};
 ghost use lib.ListN.{length, drop};
 ghost use Rattle.numbers.specs.MaxAbs.{maxAbs};
 ghost use Rattle.vectors.specs.Space as space;
-ghost use Rattle.vectors.specs.Tol as tolerances;
 ghost use Rattle.least_squares.specs.Lm as lm;
 ghost use Rattle.least_squares.specs.Memory.{part};
 ghost use Rattle.relations.specs.Model.{bodyNumber};
-ghost use Rattle.scene.specs.Scene.{Laid, Put, sceneOf, posesIn};
+ghost use Rattle.scene.specs.Scene.{Laid, Put, sceneOf, parametersOf, posesIn};
 ghost use Rattle.scene.specs.Solve as definitions;
 ghost use Rattle.rounds.specs.Parts.{Arranged, need};
 ghost use Rattle.rounds.specs.Rounds as rounds_spec;
@@ -26,6 +25,7 @@ use rounds::parts::SolveParts;
 use rounds::parts::solve_parts;
 use rounds::rounds::run;
 use rounds::trial::largest;
+use scene::parameters::Parameters;
 use scene::scene::Scene;
 use scene::scene::inverse_weights;
 use scene::scene::pose_at;
@@ -84,15 +84,15 @@ fn worst(sheet: &[u8], scene: Scene, s: &mut [f64], p: SolveParts, x: usize) -> 
 }
 
 // The retry, the first run having ended unconverged at the unknowns at `x`. Whether it converged; it is kept then, or if its largest row is smaller.
-fn retry(sheet: &[u8], scene: Scene, s: &mut [f64], p: SolveParts) -> bool
+fn retry(sheet: &[u8], scene: Scene, s: &mut [f64], p: SolveParts, q: Parameters) -> bool
     requires { ⌜ Laid (now sheet) scene ⌝ }
     requires { ⌜ Arranged scene p (length (now s)) ⌝ }
-    requires { ⌜ scene .n ≤ 384 ⌝ }
-    ensures { λ ok. ⌜ ((first : lm.Outcome) → first .converged ≡ false → first .x ≡ rounds_spec.unknownsIn scene p (now (s .entry)) → spec.Ended scene p (now (s .entry)) (now (s .exit)) (definitions.better (sceneOf (now (sheet .entry)) scene) first (lm.run (definitions.rowsOf (sceneOf (now (sheet .entry)) scene)) (rounds_spec.weightsIn scene p (now (s .entry))) tolerances.ASSEMBLY definitions.MAX-ITER (lm.listOf definitions.slightTurn (scene .n)))) ok) ⌝ }
+    requires { ⌜ (scene .n ≤ 384) × (q .limit ≤ 800) ⌝ }
+    ensures { λ ok. ⌜ ((first : lm.Outcome) → first .converged ≡ false → first .x ≡ rounds_spec.unknownsIn scene p (now (s .entry)) → spec.Ended scene p (now (s .entry)) (now (s .exit)) (definitions.better (sceneOf (now (sheet .entry)) scene) first (lm.run (definitions.rowsOf (sceneOf (now (sheet .entry)) scene)) (rounds_spec.weightsIn scene p (now (s .entry))) (q .tolerance) (q .rounds) (q .limit) (lm.listOf definitions.slightTurn (scene .n)))) ok) ⌝ }
 {
     copy(s, p.x, p.first, scene.n);
     put_turn(s, p.x, scene.n);
-    let again = run(sheet, scene, s, p);
+    let again = run(sheet, scene, s, p, q);
     if again.converged {
         return true;
     }
@@ -106,23 +106,30 @@ fn retry(sheet: &[u8], scene: Scene, s: &mut [f64], p: SolveParts) -> bool
 }
 
 // Both runs. Whether the one that is kept converged.
-fn solved(sheet: &[u8], scene: Scene, s: &mut [f64], p: SolveParts, drag: BodyRef) -> bool
+fn solved(
+    sheet: &[u8],
+    scene: Scene,
+    s: &mut [f64],
+    p: SolveParts,
+    q: Parameters,
+    drag: BodyRef,
+) -> bool
     requires { ⌜ Laid (now sheet) scene ⌝ }
     requires { ⌜ Arranged scene p (length (now s)) ⌝ }
-    requires { ⌜ scene .n ≤ 384 ⌝ }
-    ensures { λ ok. ⌜ spec.Ended scene p (now (s .entry)) (now (s .exit)) (definitions.solved (sceneOf (now (sheet .entry)) scene) (bodyNumber drag)) ok ⌝ }
+    requires { ⌜ (scene .n ≤ 384) × (q .limit ≤ 800) ⌝ }
+    ensures { λ ok. ⌜ spec.Ended scene p (now (s .entry)) (now (s .exit)) (definitions.solved (sceneOf (now (sheet .entry)) scene) (parametersOf q) (bodyNumber drag)) ok ⌝ }
 {
     let n = scene.n;
-    inverse_weights(sheet, scene, s, p.weights, drag);
+    inverse_weights(sheet, scene, s, p.weights, q.weight, drag);
     put_start(s, p.x, n);
-    let first = run(sheet, scene, s, p);
+    let first = run(sheet, scene, s, p, q);
     if first.converged {
         return true;
     }
     if n == 0 {
         return false;
     }
-    retry(sheet, scene, s, p)
+    retry(sheet, scene, s, p, q)
 }
 
 // The first k doubles of d, from the k of s from o on.
@@ -185,21 +192,22 @@ pub fn solve(
     sheet: &[u8],
     scene: Scene,
     s: &mut [f64],
+    q: Parameters,
     drag: BodyRef,
     poses: &mut [f64],
     frames: &mut [f64],
     errors: &mut [f64],
 ) -> bool
     requires { ⌜ Laid (now sheet) scene ⌝ }
-    requires { ⌜ (scene .rows ≤ 896) × (scene .n ≤ 384) ⌝ }
+    requires { ⌜ (scene .rows ≤ 896) × (scene .n ≤ 384) × (q .limit ≤ 800) ⌝ }
     requires { ⌜ need scene ≤ length (now s) ⌝ }
     requires { ⌜ 12 * scene .m ≤ length (now poses) ⌝ }
     requires { ⌜ 12 * scene .m ≤ length (now frames) ⌝ }
     requires { ⌜ scene .k ≤ length (now errors) ⌝ }
-    ensures { λ ok. ⌜ spec.Filled (sceneOf (now (sheet .entry)) scene) (bodyNumber drag) (scene .m) (scene .k) (now (poses .entry)) (now (poses .exit)) (now (frames .entry)) (now (frames .exit)) (now (errors .entry)) (now (errors .exit)) ok ⌝ }
+    ensures { λ ok. ⌜ spec.Filled (sceneOf (now (sheet .entry)) scene) (parametersOf q) (bodyNumber drag) (scene .m) (scene .k) (now (poses .entry)) (now (poses .exit)) (now (frames .entry)) (now (frames .exit)) (now (errors .entry)) (now (errors .exit)) ok ⌝ }
 {
     let p = solve_parts(scene);
-    let converged = solved(sheet, scene, s, p, drag);
+    let converged = solved(sheet, scene, s, p, q, drag);
     poses_at(sheet, scene, s, p.x, p.poses);
     copy_out(s, p.poses, poses, 12 * scene.m);
     put_frames(sheet, scene, s, p.poses, frames);

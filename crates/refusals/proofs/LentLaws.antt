@@ -1,14 +1,16 @@
--- The tests of what is lent: each by the numbers that the code compares. Assumes nothing.
+-- The tests of what a call takes: each by the numbers that the code compares. Assumes nothing.
 use mathlib.Core.Path.{_≡_, refl}
 use mathlib.Core.Bool.{Bool, true, false, _&&_}
 use mathlib.Core.List.{List}
 use Prim.Native.Nat.{ℕ, _*_, _<_, _≤_}
 use lib.Dec.{leb}
+use lib.Ieee.{lt, le, eq, ofBits}
 use borrow.Author.Tests.{lt-ltb, le-ltb, le-leb, lt-leb, eq-eqb, ne-eqb}
 use Rattle.records.specs.Numbers.{GROUND}
 use Rattle.format.specs.Format.{bodiesOf, relationsOf}
 use Rattle.format.specs.Faults.{orElse, unless, sheetFault}
-use Rattle.refusals.specs.Refusals.{dragFault, solveScratch, solveFault, dofScratch, dofFault}
+use Rattle.scene.specs.Solve.{Parameters, plain, inRange}
+use Rattle.refusals.specs.Refusals.{dragFault, parametersFault, solveScratch, solveWithFault, solveFault, dofScratch, dofFault}
 use Rattle.format.proofs.RefusalLaws.{first, later}
 
 -- ---- the drag
@@ -34,19 +36,36 @@ solveLong s poses frames errors = leb (12 * bodiesOf s) poses && (leb (12 * bodi
 unfoldable pub dofLong : List ℕ → ℕ → Bool
 dofLong s freedoms = leb (29 * bodiesOf s) freedoms
 
-pub solve-first : (s : List ℕ) (drag scratch poses frames errors f : ℕ) → f ≡ sheetFault s → (f ≡ 0 → ⊥) → f ≡ solveFault s drag scratch poses frames errors
-unfolding solveFault
-solve-first s drag scratch poses frames errors f e ne = first _ (sheetFault s) _ f refl e ne
+pub solve-first : (s : List ℕ) (p : Parameters) (drag scratch poses frames errors f : ℕ) → f ≡ sheetFault s → (f ≡ 0 → ⊥) → f ≡ solveWithFault s p drag scratch poses frames errors
+unfolding solveWithFault
+solve-first s p drag scratch poses frames errors f e ne = first _ (sheetFault s) _ f refl e ne
 
-pub solve-drag : (s : List ℕ) (drag scratch poses frames errors f d : ℕ) → f ≡ sheetFault s → f ≡ 0 → d ≡ dragFault s drag → (d ≡ 0 → ⊥)
-    → d ≡ solveFault s drag scratch poses frames errors
-unfolding solveFault
-solve-drag s drag scratch poses frames errors f d e z de ne = later _ (sheetFault s) _ f d refl e z (first _ (dragFault s drag) _ d refl de ne)
+pub solve-drag : (s : List ℕ) (p : Parameters) (drag scratch poses frames errors f d : ℕ) → f ≡ sheetFault s → f ≡ 0 → d ≡ dragFault s drag → (d ≡ 0 → ⊥)
+    → d ≡ solveWithFault s p drag scratch poses frames errors
+unfolding solveWithFault
+solve-drag s p drag scratch poses frames errors f d e z de ne = later _ (sheetFault s) _ f d refl e z (first _ (dragFault s drag) _ d refl de ne)
 
-pub solve-lent : (s : List ℕ) (drag scratch poses frames errors f d w : ℕ) → f ≡ sheetFault s → f ≡ 0 → d ≡ dragFault s drag → d ≡ 0
-    → w ≡ lentFault (solveLong s poses frames errors) (solveScratch s) scratch → w ≡ solveFault s drag scratch poses frames errors
-unfolding solveFault lentFault solveLong
-solve-lent s drag scratch poses frames errors f d w e z de dz h = later _ (sheetFault s) _ f w refl e z (later _ (dragFault s drag) _ d w refl de dz h)
+pub solve-chosen : (s : List ℕ) (p : Parameters) (drag scratch poses frames errors f d q : ℕ) → f ≡ sheetFault s → f ≡ 0 → d ≡ dragFault s drag → d ≡ 0 → q ≡ parametersFault p → (q ≡ 0 → ⊥)
+    → q ≡ solveWithFault s p drag scratch poses frames errors
+unfolding solveWithFault
+solve-chosen s p drag scratch poses frames errors f d q e z de dz qe ne =
+    later _ (sheetFault s) _ f q refl e z (later _ (dragFault s drag) _ d q refl de dz (first _ (parametersFault p) _ q refl qe ne))
+
+pub solve-lent : (s : List ℕ) (p : Parameters) (drag scratch poses frames errors f d q w : ℕ) → f ≡ sheetFault s → f ≡ 0 → d ≡ dragFault s drag → d ≡ 0 → q ≡ parametersFault p → q ≡ 0
+    → w ≡ lentFault (solveLong s poses frames errors) (solveScratch s) scratch → w ≡ solveWithFault s p drag scratch poses frames errors
+unfolding solveWithFault lentFault solveLong
+solve-lent s p drag scratch poses frames errors f d q w e z de dz qe qz h =
+    later _ (sheetFault s) _ f w refl e z (later _ (dragFault s drag) _ d w refl de dz (later _ (parametersFault p) _ q w refl qe qz h))
+
+plain-range : inRange plain ≡ true
+unfolding inRange le lt eq ofBits
+plain-range = refl
+
+-- a call that chooses nothing is refused by 8, 10 and 9 alone, once its sheet passes
+pub plain-fault : (s : List ℕ) (drag scratch poses frames errors : ℕ)
+    → solveFault s drag scratch poses frames errors ≡ orElse (sheetFault s) (orElse (dragFault s drag) (lentFault (solveLong s poses frames errors) (solveScratch s) scratch))
+unfolding solveWithFault lentFault solveLong
+plain-fault s drag scratch poses frames errors = rw plain-range
 
 pub dof-first : (s : List ℕ) (scratch freedoms f : ℕ) → f ≡ sheetFault s → (f ≡ 0 → ⊥) → f ≡ dofFault s scratch freedoms
 unfolding dofFault

@@ -1,4 +1,4 @@
--- The number of a refusal is at most 14: by the tests, each of which gives 0 or its own number. Assumes nothing.
+-- The number of a refusal is at most 15: by the tests, each of which gives 0 or its own number. Assumes nothing.
 use mathlib.Core.Bool.{Bool, true, false, _&&_, _||_, cond}
 use mathlib.Core.List.{List}
 use Prim.Native.Nat.{ℕ, zero, suc, _*_, _≤_}
@@ -8,10 +8,11 @@ use lib.Dec.{eqb, leb, ltb}
 use Rattle.records.specs.Numbers.{GROUND}
 use Rattle.format.specs.Format.{bodiesOf, relationsOf, bodyStart, relStart}
 use Rattle.format.specs.Faults.{orElse, unless, headerZeros, headerCounts, headerOffsets, headerFault, bodyShape, bodyLimits, bodyFault, relShape, relTeeth, relNames, relLimits, relFault, bodiesFault, relsFault, sheetFault}
-use Rattle.refusals.specs.Refusals.{dragFault, solveScratch, solveFault, dofScratch, dofFault}
+use Rattle.scene.specs.Solve.{Parameters, inRange}
+use Rattle.refusals.specs.Refusals.{dragFault, parametersFault, solveScratch, solveWithFault, dofScratch, dofFault}
 
 abbrev pub LARGEST : ℕ
-LARGEST = 14
+LARGEST = 15
 
 or-else-le : (a b n : ℕ) → a ≤ n → b ≤ n → orElse a b ≤ n
 or-else-le zero b n h k = k
@@ -54,14 +55,15 @@ pub sheet-le : (s : List ℕ) → sheetFault s ≤ LARGEST
 unfolding sheetFault
 sheet-le s = or-else-le (headerFault s) _ LARGEST (header-le s) (or-else-le (bodiesFault s (bodiesOf s)) _ LARGEST (bodies-le s (bodiesOf s)) (rels-le s (relationsOf s)))
 
-pub solve-le : (s : List ℕ) (drag scratch poses frames errors : ℕ) → solveFault s drag scratch poses frames errors ≤ LARGEST
-unfolding solveFault
-solve-le s drag scratch poses frames errors =
+pub solve-le : (s : List ℕ) (p : Parameters) (drag scratch poses frames errors : ℕ) → solveWithFault s p drag scratch poses frames errors ≤ LARGEST
+unfolding solveWithFault
+solve-le s p drag scratch poses frames errors =
     or-else-le (sheetFault s) _ LARGEST (sheet-le s)
     (or-else-le (dragFault s drag) _ LARGEST (unless-le (eqb drag GROUND || ltb drag (bodiesOf s)) 8 LARGEST (omega arith))
+    (or-else-le (parametersFault p) _ LARGEST (unless-le (inRange p) 15 LARGEST (omega arith))
     (or-else-le (unless (leb (12 * bodiesOf s) poses && (leb (12 * bodiesOf s) frames && leb (relationsOf s) errors)) 10) _ LARGEST
     (unless-le (leb (12 * bodiesOf s) poses && (leb (12 * bodiesOf s) frames && leb (relationsOf s) errors)) 10 LARGEST (omega arith))
-    (unless-le (leb (solveScratch s) scratch) 9 LARGEST (omega arith))))
+    (unless-le (leb (solveScratch s) scratch) 9 LARGEST (omega arith)))))
 
 pub dof-le : (s : List ℕ) (scratch freedoms : ℕ) → dofFault s scratch freedoms ≤ LARGEST
 unfolding dofFault

@@ -1,5 +1,5 @@
 -- Which number a call gives, or 0 for none, for any bytes, numbers and lengths of lent memory. Document 01, "What a call says", the table of refusals and the order of
--- its tests: 1 to 7 of the sheet, and document 02's 14, then 13, 8, 11, 12, 10, 9. Definitions only.
+-- its tests: 1 to 7 of the sheet, and document 02's 14, then 13, 8, 11, 12, document 02's 15, 10, 9. Definitions only.
 use Prim.Native.Nat.{ℕ, _+_, _*_}
 use mathlib.Core.Bool.{_&&_, _||_}
 use mathlib.Core.List.{List}
@@ -7,14 +7,14 @@ use lib.ListN.{length}
 use lib.Dec.{eqb, leb, ltb}
 use Rattle.judging.specs.Judge.{judge}
 use Rattle.least_squares.specs.Lm.{listOf}
-use Rattle.scene.specs.Solve.{Scene, unknowns, rowsOf, startAt}
+use Rattle.scene.specs.Solve.{Scene, unknowns, rowsOf, startAt, Parameters, plain, inRange}
 use Rattle.records.specs.Numbers.{GROUND}
 use Rattle.records.specs.Record.{relAt}
 use Rattle.format.specs.Format.{bodiesOf, relationsOf, relStart}
 use Rattle.format.specs.Faults.{orElse, unless, sheetFault}
 use Rattle.refusals.specs.SceneAt.{sceneAt}
 
--- ---- 13, 8, 11, 12, 10, 9: what the call takes
+-- ---- 13, 8, 11, 12, 15, 10, 9: what the call takes
 
 -- R, and n
 abbrev pub rowsIn : Scene → ℕ
@@ -41,6 +41,10 @@ relationFault s j = unless (ltb j (relationsOf s)) 13
 abbrev pub dragFault : List ℕ → ℕ → ℕ
 dragFault s drag = unless (eqb drag GROUND || ltb drag (bodiesOf s)) 8
 
+-- a parameter is a NaN or outside its range
+abbrev pub parametersFault : Parameters → ℕ
+parametersFault p = unless (inRange p) 15
+
 unfoldable pub judgeFault : List ℕ → ℕ → ℕ
 judgeFault s j = orElse (sheetFault s) (orElse (relationFault s j) (judge (relAt s (relStart (bodiesOf s) j))))
 
@@ -51,11 +55,16 @@ readingFault s j = orElse (sheetFault s) (relationFault s j)
 unfoldable pub snapFault : List ℕ → ℕ → ℕ → ℕ
 snapFault s j motion = orElse (sheetFault s) (orElse (relationFault s j) (unless (leb 12 motion) 10))
 
-unfoldable pub solveFault : List ℕ → ℕ → ℕ → ℕ → ℕ → ℕ → ℕ
-solveFault s drag scratch poses frames errors =
+unfoldable pub solveWithFault : List ℕ → Parameters → ℕ → ℕ → ℕ → ℕ → ℕ → ℕ
+solveWithFault s p drag scratch poses frames errors =
     orElse (sheetFault s)
     (orElse (dragFault s drag)
-    (orElse (unless (leb (12 * bodiesOf s) poses && (leb (12 * bodiesOf s) frames && leb (relationsOf s) errors)) 10) (unless (leb (solveScratch s) scratch) 9)))
+    (orElse (parametersFault p)
+    (orElse (unless (leb (12 * bodiesOf s) poses && (leb (12 * bodiesOf s) frames && leb (relationsOf s) errors)) 10) (unless (leb (solveScratch s) scratch) 9))))
+
+-- a call that chooses nothing; no such call is refused by 15 (`plain-fault` of proofs/LentLaws.antt)
+abbrev pub solveFault : List ℕ → ℕ → ℕ → ℕ → ℕ → ℕ → ℕ
+solveFault s drag scratch poses frames errors = solveWithFault s plain drag scratch poses frames errors
 
 unfoldable pub dofFault : List ℕ → ℕ → ℕ → ℕ
 dofFault s scratch freedoms = orElse (sheetFault s) (orElse (unless (leb (29 * bodiesOf s) freedoms) 10) (unless (leb (dofScratch s) scratch) 9))

@@ -1,10 +1,13 @@
-// Tests 8, 9 and 10: what is lent to `solve` and `dof`. specs/Refusals.antt has the definitions.
+// Tests 8, 15, 10 and 9: what a call of `solve` or `dof` takes. specs/Refusals.antt has the definitions.
 
 use crate::figures::dof_scratch;
 use crate::figures::solve_scratch;
 use format::refusals::sheet_fault;
 use records::record::u16_at;
+use scene::parameters::Parameters;
 ghost use mathlib.Core.Path.{_≡_};
+ghost use Rattle.scene.specs.Scene.{parametersOf};
+ghost use Rattle.scene.specs.Solve as solve;
 ghost use Rattle.format.specs.Faults as faults;
 ghost use Rattle.refusals.specs.Refusals as spec;
 
@@ -23,16 +26,49 @@ fn drag_fault(sheet: &[u8], drag: u16) -> u32
     8
 }
 
-// The tests of `solve` in their order, by the lengths of what is lent.
+// Whether x stands from lo to hi, both included; a NaN does not.
+fn from_to(lo: f64, hi: f64, x: f64) -> bool
+    ensures { λ r. ⌜ r ≡ solve.fromTo lo hi x ⌝ }
+{
+    lo <= x && x <= hi
+}
+
+// Test 15: every parameter is in its range.
+fn parameters_fault(q: Parameters) -> u32
+    ensures { λ r. ⌜ r ≡ spec.parametersFault (parametersOf q) ⌝ }
+{
+    if !from_to(1e-12, 1e-3, q.tolerance) {
+        return 15;
+    }
+    if q.rounds < 1 {
+        return 15;
+    }
+    if q.rounds > 1000 {
+        return 15;
+    }
+    if q.limit < 1 {
+        return 15;
+    }
+    if q.limit > 800 {
+        return 15;
+    }
+    if !from_to(1.0, 1e8, q.weight) {
+        return 15;
+    }
+    0
+}
+
+// The tests of `solve` in their order, by what is chosen and the lengths of what is lent.
 pub fn solve_fault(
     sheet: &[u8],
+    q: Parameters,
     drag: u16,
     scratch: usize,
     poses: usize,
     frames: usize,
     errors: usize,
 ) -> u32
-    ensures { λ r. ⌜ r ≡ spec.solveFault (now (sheet .entry)) drag scratch poses frames errors ⌝ }
+    ensures { λ r. ⌜ r ≡ spec.solveWithFault (now (sheet .entry)) (parametersOf q) drag scratch poses frames errors ⌝ }
 {
     let fault = sheet_fault(sheet);
     if fault != 0 {
@@ -41,6 +77,10 @@ pub fn solve_fault(
     let dragged = drag_fault(sheet, drag);
     if dragged != 0 {
         return dragged;
+    }
+    let chosen = parameters_fault(q);
+    if chosen != 0 {
+        return chosen;
     }
     let m = u16_at(sheet, 2) as usize;
     let k = u16_at(sheet, 4) as usize;

@@ -12,6 +12,7 @@ use borrow.Author.Tests.{eq-eqb, ne-eqb}
 use Rattle.body_freedom.specs.Layout.{freedomsDoubles}
 use Rattle.format.specs.Format.{bodiesOf, relationsOf}
 use Rattle.format.specs.Faults.{sheetFault}
+use Rattle.scene.specs.Solve.{plain}
 use Rattle.refusals.specs.Refusals.{solveFault, dofFault}
 use Rattle.records.specs.Numbers.{flagNumber}
 use Rattle.sheet.specs.Solving.{solutionOf, SolveAnswer}
@@ -70,7 +71,7 @@ front-length l s t k e q h =
 
 -- its number has at most five digits
 pub solve-small : (s : List ℕ) (drag r scratch poses frames errors : ℕ) → r ≡ solveFault s drag scratch poses frames errors → r < 100000
-solve-small s drag r scratch poses frames errors e = omega (arith, e, solve-le s drag scratch poses frames errors)
+solve-small s drag r scratch poses frames errors e = omega (arith, e, solve-le s plain drag scratch poses frames errors)
 
 pub dof-small : (s : List ℕ) (r scratch freedoms : ℕ) → r ≡ dofFault s scratch freedoms → r < 100000
 dof-small s r scratch freedoms e = omega (arith, e, dof-le s scratch freedoms)

@@ -9,7 +9,6 @@ use lib.Ieee.{Float, binary64, mul, lt, ofBits}
 use lib.ListN.{length, take, drop, length-drop}
 use lib.Seq.{take-length, drop-drop}
 use Rattle.numbers.specs.Double.{isFinite}
-use Rattle.vectors.specs.Tol.{ASSEMBLY}
 use Rattle.least_squares.specs.Memory.{part, Kept}
 use Rattle.least_squares.specs.Lm.{norm2, diagMax, dampTo, solveDense, stepped, stiffer, softer, judged, stepWith, trial}
 use Rattle.least_squares.specs.LmPosts.{Copied, Damped, Stepped}
@@ -217,7 +216,7 @@ no-answer sc c p s t cost mu ok size h a e =
     record {
       tried =
           stiffened c p s t cost mu st
-          ∙ sym (ap (stepWith (rowsOf sc) (weightsIn c p s) ASSEMBLY (slopesIn c p s) (c .rows) (stateIn c p s cost mu)) (not-given (answerIn c p s mu) (sym e ∙ a .told)));
+          ∙ sym (ap (stepWith (rowsOf sc) (weightsIn c p s) (slopesIn c p s) (c .rows) (stateIn c p s cost mu)) (not-given (answerIn c p s mu) (sym e ∙ a .told)));
       leaves = st .leaves;
     }
 
@@ -228,7 +227,7 @@ module _ (sc : Scene) (c : SceneStruct) (p : PartsStruct) (s u t : List Float) (
 
   -- a trial judges the unknowns and the rows of the step
   judges :
-      trial (rowsOf sc) (weightsIn c p s) ASSEMBLY (slopesIn c p s) (matrixIn c p s) (c .rows) (stateIn c p s cost mu)
+      trial (rowsOf sc) (weightsIn c p s) (slopesIn c p s) (matrixIn c p s) (c .rows) (stateIn c p s cost mu)
       ≡ judged (stateIn c p s cost mu) (part t (p .next) (c .n)) (part t (p .ahead) (c .rows))
   unfolding trial stepWith
   judges =
@@ -237,7 +236,7 @@ module _ (sc : Scene) (c : SceneStruct) (p : PartsStruct) (s u t : List Float) (
       let q : answerIn c p s mu ≡ some y = given-as (answerIn c p s mu) y (sym good ∙ answer .told) (answer .answer) in
       let x : part t (p .next) (c .n) ≡ stepped (unknownsIn c p s) (slopesIn c p s) (weightsIn c p s) y (c .rows) =
       far .unknowns ∙ (λ j. stepped (g .unknowns j) (g .leaves .slopes j) (g .leaves .keeps .weights j) y (c .rows)) in
-      ap (stepWith (rowsOf sc) (weightsIn c p s) ASSEMBLY (slopesIn c p s) (c .rows) (stateIn c p s cost mu)) q
+      ap (stepWith (rowsOf sc) (weightsIn c p s) (slopesIn c p s) (c .rows) (stateIn c p s cost mu)) q
       ∙ ap (λ (l : List Float). judged (stateIn c p s cost mu) l (rowsOf sc l)) (sym x)
       ∙ ap (judged (stateIn c p s cost mu) (part t (p .next) (c .n))) (sym (far .rows))
 

@@ -1,14 +1,13 @@
 -- What the rounds of lm.rs leave in the lent scratch: a state's unknowns stand at `x`, its rows at `rows`; its cost and damping go by value. s is the scratch at entry
 -- and t at exit. least_squares' specs/Lm.antt has what is computed. Definitions only.
-use Prim.Native.Nat.{ℕ, _+_, _*_, _≤_, _<_}
+use Prim.Native.Nat.{_+_, _*_}
 use mathlib.Core.Path.{_≡_}
 use mathlib.Core.Bool.{Bool}
 use mathlib.Core.List.{List}
-use mathlib.Core.Option.{Option, none, some}
+use mathlib.Core.Option.{Option, some}
 use lib.ListN.{length, take}
 use lib.Ieee.{Float, binary64, mul, le}
 use Rattle.numbers.specs.MaxAbs.{maxAbs}
-use Rattle.vectors.specs.Tol.{ASSEMBLY}
 use Rattle.least_squares.specs.Memory.{part, Kept}
 use Rattle.least_squares.specs.Dense.{given}
 use Rattle.least_squares.specs.Lm.{State, Tried, Outcome, norm2, diagMax, dampTo, solveDense, stepped, trial, trials, oneRound}
@@ -89,22 +88,22 @@ pub record Taken (c : SceneStruct) (p : PartsStruct) (s t : List Float) : Type 0
   pub leaves : Leaves c p s t
 
 pub record TrialMade (sc : Scene) (c : SceneStruct) (p : PartsStruct) (s t : List Float) (cost mu : Float) (r : TriedStruct) : Type 0 where
-  pub tried : triedIn c p t r ≡ trial (rowsOf sc) (weightsIn c p s) ASSEMBLY (slopesIn c p s) (matrixIn c p s) (c .rows) (stateIn c p s cost mu)
+  pub tried : triedIn c p t r ≡ trial (rowsOf sc) (weightsIn c p s) (slopesIn c p s) (matrixIn c p s) (c .rows) (stateIn c p s cost mu)
   pub leaves : Leaves c p s t
 
 -- at most 12 trials
 pub record TrialsMade (sc : Scene) (c : SceneStruct) (p : PartsStruct) (s t : List Float) (cost mu : Float) (r : TriedStruct) : Type 0 where
-  pub tried : triedIn c p t r ≡ trials (rowsOf sc) (weightsIn c p s) ASSEMBLY (slopesIn c p s) (matrixIn c p s) (c .rows) 12 (stateIn c p s cost mu)
+  pub tried : triedIn c p t r ≡ trials (rowsOf sc) (weightsIn c p s) (slopesIn c p s) (matrixIn c p s) (c .rows) 12 (stateIn c p s cost mu)
   pub leaves : Leaves c p s t
 
 -- ---- rounds and runs
 
 -- the rows at `rows` are all within the tolerance
-abbrev pub withinIn : SceneStruct → PartsStruct → List Float → Bool
-withinIn c p s = le (maxAbs (rowsIn c p s)) ASSEMBLY
+abbrev pub withinIn : SceneStruct → PartsStruct → List Float → Float → Bool
+withinIn c p s tol = le (maxAbs (rowsIn c p s)) tol
 
 pub record RoundMade (sc : Scene) (c : SceneStruct) (p : PartsStruct) (s t : List Float) (cost mu : Float) (r : TriedStruct) : Type 0 where
-  pub tried : triedIn c p t r ≡ oneRound (rowsOf sc) (weightsIn c p s) ASSEMBLY (stateIn c p s cost mu)
+  pub tried : triedIn c p t r ≡ oneRound (rowsOf sc) (weightsIn c p s) (stateIn c p s cost mu)
   pub keeps : Keeps c p s t
 
 -- a run has ended as o says: its unknowns stand at `x`, and e says whether it converged and how many rounds were made

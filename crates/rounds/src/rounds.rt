@@ -3,7 +3,6 @@
 ghost use mathlib.Core.Path.{_≡_};
 ghost use Prim.Native.Nat.{_+_, _*_, _≤_, _<_};
 ghost use lib.ListN.{length};
-ghost use Rattle.vectors.specs.Tol as tolerances;
 ghost use Rattle.least_squares.specs.Lm as lm;
 ghost use Rattle.scene.specs.Solve as definitions;
 ghost use Rattle.scene.specs.Scene.{Laid, sceneOf};
@@ -15,10 +14,10 @@ use crate::trial::largest;
 use crate::trial::squares;
 use crate::trial::trial;
 use least_squares::lm::matrix;
+use scene::parameters::Parameters;
 use scene::scene::Scene;
 use scene::scene::rows_at;
 use slopes::anew_slopes::slopes;
-use vectors::tol;
 
 // How a run ended: whether it converged, and how many rounds were made.
 pub struct RunEnd {
@@ -63,25 +62,34 @@ fn one_round(sheet: &[u8], scene: Scene, s: &mut [f64], p: SolveParts, cost: f64
 }
 
 // Whether the rows at `rows` are all within the tolerance.
-fn within(s: &[f64], scene: Scene, p: SolveParts) -> bool
+fn within(s: &[f64], scene: Scene, p: SolveParts, tolerance: f64) -> bool
     requires { ⌜ Arranged scene p (length (now s)) ⌝ }
-    ensures { λ r. ⌜ r ≡ spec.withinIn scene p (now (s .entry)) ⌝ }
+    ensures { λ r. ⌜ r ≡ spec.withinIn scene p (now (s .entry)) tolerance ⌝ }
 {
-    largest(s, p.rows, scene.rows) <= tol::ASSEMBLY
+    largest(s, p.rows, scene.rows) <= tolerance
 }
 
-// At most 200 rounds. A run ends where its rows are within the tolerance, or a round brings nothing better.
-fn rounds(sheet: &[u8], scene: Scene, s: &mut [f64], p: SolveParts, cost: f64, mu: f64) -> RunEnd
+// At most `most` rounds. A run ends where its rows are within the tolerance, or a round brings nothing better.
+fn rounds(
+    sheet: &[u8],
+    scene: Scene,
+    s: &mut [f64],
+    p: SolveParts,
+    tolerance: f64,
+    most: usize,
+    cost: f64,
+    mu: f64,
+) -> RunEnd
     requires { ⌜ Laid (now sheet) scene ⌝ }
     requires { ⌜ Arranged scene p (length (now s)) ⌝ }
     requires { ⌜ (scene .rows ≤ 800) × (scene .n ≤ 384) ⌝ }
-    ensures { λ e. ⌜ spec.Ran scene p (now (s .entry)) (now (s .exit)) (lm.rounds (definitions.rowsOf (sceneOf (now (sheet .entry)) scene)) (spec.weightsIn scene p (now (s .entry))) tolerances.ASSEMBLY definitions.MAX-ITER 0 (spec.stateIn scene p (now (s .entry)) cost mu)) e ⌝ }
+    ensures { λ e. ⌜ spec.Ran scene p (now (s .entry)) (now (s .exit)) (lm.rounds (definitions.rowsOf (sceneOf (now (sheet .entry)) scene)) (spec.weightsIn scene p (now (s .entry))) tolerance most 0 (spec.stateIn scene p (now (s .entry)) cost mu)) e ⌝ }
 {
     let mut c = cost;
     let mut d = mu;
-    for i in 0usize..200 {
+    for i in 0..most {
         let t = one_round(sheet, scene, s, p, c, d);
-        if within(s, scene, p) {
+        if within(s, scene, p, tolerance) {
             return RunEnd {
                 converged: true,
                 rounds: i + 1,
@@ -98,17 +106,17 @@ fn rounds(sheet: &[u8], scene: Scene, s: &mut [f64], p: SolveParts, cost: f64, m
         }
     }
     RunEnd {
-        converged: within(s, scene, p),
-        rounds: 200,
+        converged: within(s, scene, p, tolerance),
+        rounds: most,
     }
 }
 
-// A run from the unknowns at `x`, with the damping 1e-10 at first; over 800 rows there are no rounds.
-pub fn run(sheet: &[u8], scene: Scene, s: &mut [f64], p: SolveParts) -> RunEnd
+// A run from the unknowns at `x`, with the damping 1e-10 at first; over the row limit there are no rounds.
+pub fn run(sheet: &[u8], scene: Scene, s: &mut [f64], p: SolveParts, q: Parameters) -> RunEnd
     requires { ⌜ Laid (now sheet) scene ⌝ }
     requires { ⌜ Arranged scene p (length (now s)) ⌝ }
-    requires { ⌜ scene .n ≤ 384 ⌝ }
-    ensures { λ e. ⌜ spec.Ran scene p (now (s .entry)) (now (s .exit)) (lm.run (definitions.rowsOf (sceneOf (now (sheet .entry)) scene)) (spec.weightsIn scene p (now (s .entry))) tolerances.ASSEMBLY definitions.MAX-ITER (spec.unknownsIn scene p (now (s .entry)))) e ⌝ }
+    requires { ⌜ (scene .n ≤ 384) × (q .limit ≤ 800) ⌝ }
+    ensures { λ e. ⌜ spec.Ran scene p (now (s .entry)) (now (s .exit)) (lm.run (definitions.rowsOf (sceneOf (now (sheet .entry)) scene)) (spec.weightsIn scene p (now (s .entry))) (q .tolerance) (q .rounds) (q .limit) (spec.unknownsIn scene p (now (s .entry)))) e ⌝ }
 {
     rows_at(sheet, scene, s, p.x, p.rows, p.poses);
     let rows = scene.rows;
@@ -118,7 +126,7 @@ pub fn run(sheet: &[u8], scene: Scene, s: &mut [f64], p: SolveParts) -> RunEnd
             rounds: 0,
         };
     }
-    if within(s, scene, p) {
+    if within(s, scene, p, q.tolerance) {
         return RunEnd {
             converged: true,
             rounds: 0,
@@ -130,12 +138,12 @@ pub fn run(sheet: &[u8], scene: Scene, s: &mut [f64], p: SolveParts) -> RunEnd
             rounds: 0,
         };
     }
-    if rows > 800 {
+    if rows > q.limit {
         return RunEnd {
             converged: false,
             rounds: 0,
         };
     }
     let cost = squares(s, p.rows, rows);
-    rounds(sheet, scene, s, p, cost, 1e-10)
+    rounds(sheet, scene, s, p, q.tolerance, q.rounds, cost, 1e-10)
 }

@@ -355,46 +355,46 @@ rows-at-is sheet c s u t x r p h a b =
 -- ---- weights
 
 -- the inverse weights from body i on
-abbrev pub restWeights : List ℕ → SceneStruct → Option ℕ → ℕ → List Float
-restWeights sheet c drag i = map inverseWeight (weightsFrom drag i (drop i (sceneOf sheet c .bodies)) (drop i (layout (sceneOf sheet c))))
+abbrev pub restWeights : List ℕ → SceneStruct → Float → Option ℕ → ℕ → List Float
+restWeights sheet c weight drag i = map inverseWeight (weightsFrom weight drag i (drop i (sceneOf sheet c .bodies)) (drop i (layout (sceneOf sheet c))))
 
-weights-cons : (drag : Option ℕ) (i : ℕ) (b : Body) (bodies : List Body) (k : Option ℕ) (l : List (Option ℕ))
-    → map inverseWeight (weightsFrom drag i (b ∷ bodies) (k ∷ l)) ≡ map inverseWeight (weightsOf drag i b k) ++ map inverseWeight (weightsFrom drag (suc i) bodies l)
+weights-cons : (weight : Float) (drag : Option ℕ) (i : ℕ) (b : Body) (bodies : List Body) (k : Option ℕ) (l : List (Option ℕ))
+    → map inverseWeight (weightsFrom weight drag i (b ∷ bodies) (k ∷ l)) ≡ map inverseWeight (weightsOf weight drag i b k) ++ map inverseWeight (weightsFrom weight drag (suc i) bodies l)
 unfolding weightsFrom
-weights-cons drag i b bodies none l = refl
-weights-cons drag i b bodies (some k) l = refl
+weights-cons weight drag i b bodies none l = refl
+weights-cons weight drag i b bodies (some k) l = refl
 
-pub weights-next : (sheet : List ℕ) (c : SceneStruct) (drag : Option ℕ) (i : ℕ) → Laid sheet c → i < c .m
-    → restWeights sheet c drag i ≡ inverseAt sheet c drag i ++ restWeights sheet c drag (suc i)
-weights-next sheet c drag i laid h =
-    (λ z. map inverseWeight (weightsFrom drag i (bodies-next sheet c i h z) (layout-next sheet c i laid h z)))
-    ∙ weights-cons drag i (bodyAt sheet (c .bodies + 136 * i)) (drop (suc i) (sceneOf sheet c .bodies)) (firstUnknown (getD (c .index) i 0)) (drop (suc i) (layout (sceneOf sheet c)))
+pub weights-next : (sheet : List ℕ) (c : SceneStruct) (weight : Float) (drag : Option ℕ) (i : ℕ) → Laid sheet c → i < c .m
+    → restWeights sheet c weight drag i ≡ inverseAt sheet c weight drag i ++ restWeights sheet c weight drag (suc i)
+weights-next sheet c weight drag i laid h =
+    (λ z. map inverseWeight (weightsFrom weight drag i (bodies-next sheet c i h z) (layout-next sheet c i laid h z)))
+    ∙ weights-cons weight drag i (bodyAt sheet (c .bodies + 136 * i)) (drop (suc i) (sceneOf sheet c .bodies)) (firstUnknown (getD (c .index) i 0)) (drop (suc i) (layout (sceneOf sheet c)))
 
-pub weights-done : (sheet : List ℕ) (c : SceneStruct) (drag : Option ℕ) (i : ℕ) → i ≡ c .m → restWeights sheet c drag i ≡ []
+pub weights-done : (sheet : List ℕ) (c : SceneStruct) (weight : Float) (drag : Option ℕ) (i : ℕ) → i ≡ c .m → restWeights sheet c weight drag i ≡ []
 unfolding weightsFrom
-weights-done sheet c drag i e =
-    ap (λ (l : List Body). map inverseWeight (weightsFrom drag i l (drop i (layout (sceneOf sheet c))))) (drop-whole (sceneOf sheet c .bodies) i (length-bodies sheet c ∙ sym e))
+weights-done sheet c weight drag i e =
+    ap (λ (l : List Body). map inverseWeight (weightsFrom weight drag i l (drop i (layout (sceneOf sheet c))))) (drop-whole (sceneOf sheet c .bodies) i (length-bodies sheet c ∙ sym e))
 
-length-weights : (drag : Option ℕ) (i : ℕ) (bodies : List Body) (l : List (Option ℕ)) → length l ≡ length bodies → length (map inverseWeight (weightsFrom drag i bodies l)) ≡ unknownsIn l
+length-weights : (weight : Float) (drag : Option ℕ) (i : ℕ) (bodies : List Body) (l : List (Option ℕ)) → length l ≡ length bodies → length (map inverseWeight (weightsFrom weight drag i bodies l)) ≡ unknownsIn l
 unfolding weightsFrom unknownsIn
-length-weights drag i [] [] e = refl
-length-weights drag i [] (k ∷ l) e = absurd (omega arith)
-length-weights drag i (b ∷ bodies) [] e = refl
-length-weights drag i (b ∷ bodies) (none ∷ l) e = length-weights drag (suc i) bodies l (omega arith)
-length-weights drag i (b ∷ bodies) (some k ∷ l) e = let w = length-weights drag (suc i) bodies l (omega arith) in omega arith
+length-weights weight drag i [] [] e = refl
+length-weights weight drag i [] (k ∷ l) e = absurd (omega arith)
+length-weights weight drag i (b ∷ bodies) [] e = refl
+length-weights weight drag i (b ∷ bodies) (none ∷ l) e = length-weights weight drag (suc i) bodies l (omega arith)
+length-weights weight drag i (b ∷ bodies) (some k ∷ l) e = let w = length-weights weight drag (suc i) bodies l (omega arith) in omega arith
 
-pub weights-length : (sheet : List ℕ) (c : SceneStruct) (drag : Option ℕ) → Laid sheet c → length (map inverseWeight (weights (sceneOf sheet c) drag)) ≡ c .n
-weights-length sheet c drag laid =
-    length-weights drag 0 (sceneOf sheet c .bodies) (layout (sceneOf sheet c)) (length-layout (sceneOf sheet c .rels) 0 0 (sceneOf sheet c .bodies)) ∙ sym (laid .unknown-count)
+pub weights-length : (sheet : List ℕ) (c : SceneStruct) (weight : Float) (drag : Option ℕ) → Laid sheet c → length (map inverseWeight (weights (sceneOf sheet c) weight drag)) ≡ c .n
+weights-length sheet c weight drag laid =
+    length-weights weight drag 0 (sceneOf sheet c .bodies) (layout (sceneOf sheet c)) (length-layout (sceneOf sheet c .rels) 0 0 (sceneOf sheet c .bodies)) ∙ sym (laid .unknown-count)
 
-pub no-weights : (sheet : List ℕ) (c : SceneStruct) (drag : Option ℕ) (i : ℕ) → getD (c .index) i 0 ≡ 0xFFFF → inverseAt sheet c drag i ≡ []
+pub no-weights : (sheet : List ℕ) (c : SceneStruct) (weight : Float) (drag : Option ℕ) (i : ℕ) → getD (c .index) i 0 ≡ 0xFFFF → inverseAt sheet c weight drag i ≡ []
 unfolding firstUnknown
-no-weights sheet c drag i e = rw (eq-eqb _ _ e)
+no-weights sheet c weight drag i e = rw (eq-eqb _ _ e)
 
-pub some-weights : (sheet : List ℕ) (c : SceneStruct) (drag : Option ℕ) (i : ℕ) → (getD (c .index) i 0 ≡ 0xFFFF → ⊥)
-    → inverseAt sheet c drag i ≡ map inverseWeight (bodyWeights (dragFactor drag i) (halfSize (bodyAt sheet (c .bodies + 136 * i) .size)))
+pub some-weights : (sheet : List ℕ) (c : SceneStruct) (weight : Float) (drag : Option ℕ) (i : ℕ) → (getD (c .index) i 0 ≡ 0xFFFF → ⊥)
+    → inverseAt sheet c weight drag i ≡ map inverseWeight (bodyWeights (dragFactor weight drag i) (halfSize (bodyAt sheet (c .bodies + 136 * i) .size)))
 unfolding firstUnknown
-some-weights sheet c drag i e = rw (ne-eqb _ _ e)
+some-weights sheet c weight drag i e = rw (ne-eqb _ _ e)
 
 pub put-nothing : (s : List Float) (o : ℕ) (l : List Float) → l ≡ [] → PutNext s s o o (length l) l
 put-nothing s o l e =
@@ -404,25 +404,25 @@ pub put-six-is : (s t : List Float) (o r : ℕ) (l w : List Float) → length l 
 put-six-is s t o r l w n e h y =
     subst (λ (v : List Float). PutNext s t o r (length v) v) (sym e) (subst (λ (k : ℕ). PutNext s t o r k l) (sym n) (record { next = h; put = y }))
 
-module _ (sheet : List ℕ) (c : SceneStruct) (drag : Option ℕ) (s t : List Float) (w at i : ℕ) (laid : Laid sheet c) (h : i < c .m) (l : w ≤ at) (m : at ≤ w + c .n) (f : w + c .n ≤ length s)
-    (g : Growing s t w (at - w) (restWeights sheet c drag i) (map inverseWeight (weights (sceneOf sheet c) drag))) where
-  next-weights : restWeights sheet c drag i ≡ inverseAt sheet c drag i ++ restWeights sheet c drag (i + 1)
-  next-weights = rw add-one (weights-next sheet c drag i laid h)
+module _ (sheet : List ℕ) (c : SceneStruct) (weight : Float) (drag : Option ℕ) (s t : List Float) (w at i : ℕ) (laid : Laid sheet c) (h : i < c .m) (l : w ≤ at) (m : at ≤ w + c .n) (f : w + c .n ≤ length s)
+    (g : Growing s t w (at - w) (restWeights sheet c weight drag i) (map inverseWeight (weights (sceneOf sheet c) weight drag))) where
+  next-weights : restWeights sheet c weight drag i ≡ inverseAt sheet c weight drag i ++ restWeights sheet c weight drag (i + 1)
+  next-weights = rw add-one (weights-next sheet c weight drag i laid h)
 
-  pub weights-room : at + length (inverseAt sheet c drag i) ≤ w + c .n
+  pub weights-room : at + length (inverseAt sheet c weight drag i) ≤ w + c .n
   weights-room =
-      let a : at - w + length (inverseAt sheet c drag i) ≤ length (map inverseWeight (weights (sceneOf sheet c) drag))
-      = growing-room s t w (at - w) (inverseAt sheet c drag i) (restWeights sheet c drag i) (restWeights sheet c drag (i + 1)) (map inverseWeight (weights (sceneOf sheet c) drag)) (omega arith)
+      let a : at - w + length (inverseAt sheet c weight drag i) ≤ length (map inverseWeight (weights (sceneOf sheet c) weight drag))
+      = growing-room s t w (at - w) (inverseAt sheet c weight drag i) (restWeights sheet c weight drag i) (restWeights sheet c weight drag (i + 1)) (map inverseWeight (weights (sceneOf sheet c) weight drag)) (omega arith)
       next-weights
       g in
-      let b = weights-length sheet c drag laid in
+      let b = weights-length sheet c weight drag laid in
       omega arith
 
-  pub weights-step : (u : List Float) (at' : ℕ) → PutNext t u at at' (length (inverseAt sheet c drag i)) (inverseAt sheet c drag i)
-      → Growing s u w (at' - w) (restWeights sheet c drag (i + 1)) (map inverseWeight (weights (sceneOf sheet c) drag))
+  pub weights-step : (u : List Float) (at' : ℕ) → PutNext t u at at' (length (inverseAt sheet c weight drag i)) (inverseAt sheet c weight drag i)
+      → Growing s u w (at' - w) (restWeights sheet c weight drag (i + 1)) (map inverseWeight (weights (sceneOf sheet c) weight drag))
   weights-step u at' y =
       let n = y .next in
-      growing-step s t u w (at - w) at (length (inverseAt sheet c drag i)) (at' - w) _ _ _ _ (omega arith) (omega arith) next-weights g (y .put)
+      growing-step s t u w (at - w) at (length (inverseAt sheet c weight drag i)) (at' - w) _ _ _ _ (omega arith) (omega arith) next-weights g (y .put)
 
 -- ---- what single functions need
 

@@ -14,9 +14,10 @@ use Rattle.least_squares.specs.Lm.{listOf, inverseWeight, slope, jacobian}
 use Rattle.least_squares.specs.Memory.{part, Kept}
 use Rattle.relations.specs.Model.{Body, Rel}
 use Rattle.records.specs.Record.{bodyAt, relAt}
-use Rattle.scene.specs.Solve.{Scene, layout, unknowns, three, poseAt, rowsAt, allRows, rowsOf, dragFactor, halfSize, bodyWeights}
+use Rattle.scene.specs.Solve.{Scene, layout, unknowns, three, poseAt, rowsAt, allRows, rowsOf, Parameters, dragFactor, halfSize, bodyWeights}
 use Rattle.scene.specs.declared.scene.Unknowns.{Unknowns as UnknownsStruct}
 use Rattle.scene.specs.declared.scene.Scene.{Scene as SceneStruct}
+use Rattle.scene.specs.declared.parameters.Parameters.{Parameters as ParametersStruct}
 
 -- ---- the scene
 
@@ -52,13 +53,18 @@ abbrev pub relRows : List ℕ → SceneStruct → List (Pose Float) → ℕ → 
 relRows sheet c poses j = rowsAt poses (relAt sheet (c .rels + 264 * j))
 
 -- the weights of a body, by its entry of the layout
-abbrev pub weightsOf : Option ℕ → ℕ → Body → Option ℕ → List Float
-weightsOf drag i b none = []
-weightsOf drag i b (some k) = bodyWeights (dragFactor drag i) (halfSize (b .size))
+abbrev pub weightsOf : Float → Option ℕ → ℕ → Body → Option ℕ → List Float
+weightsOf weight drag i b none = []
+weightsOf weight drag i b (some k) = bodyWeights (dragFactor weight drag i) (halfSize (b .size))
 
 -- 1 over each weight of body i
-abbrev pub inverseAt : List ℕ → SceneStruct → Option ℕ → ℕ → List Float
-inverseAt sheet c drag i = map inverseWeight (weightsOf drag i (bodyAt sheet (c .bodies + 136 * i)) (firstUnknown (getD (c .index) i 0)))
+abbrev pub inverseAt : List ℕ → SceneStruct → Float → Option ℕ → ℕ → List Float
+inverseAt sheet c weight drag i = map inverseWeight (weightsOf weight drag i (bodyAt sheet (c .bodies + 136 * i)) (firstUnknown (getD (c .index) i 0)))
+
+-- ---- what a call chooses
+
+abbrev pub parametersOf : ParametersStruct → Parameters
+parametersOf q = record { tolerance = q .tolerance; rounds = q .rounds; rowLimit = q .limit; dragWeight = q .weight }
 
 -- ---- poses in doubles
 

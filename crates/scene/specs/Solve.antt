@@ -1,11 +1,12 @@
--- `solve` of solve.rs: unknowns, weights, poses, the retry, errors. Document 01, "The train of files", item 6, and "The words of demand 3". Definitions only.
+-- `solve` of solve.rs: unknowns, weights, poses, the retry, errors; document 02's parameters. Document 01, "The train of files", item 6, and "The words of demand 3".
+-- Definitions only.
 use Prim.Native.Nat.{ℕ, zero, suc, _+_, _-_, _*_, _%_}
 use mathlib.Core.Bool.{Bool, true, false, not, _&&_, _||_, cond}
 use mathlib.Core.List.{List, [], _∷_, _++_, map}
 use mathlib.Core.Option.{Option, none, some}
 use lib.ListN.{length, getD, take}
 use lib.Dec.{eqb, leb}
-use lib.Ieee.{Float, nan, binary64, mul, lt, ofBits}
+use lib.Ieee.{Float, nan, binary64, mul, lt, le, ofBits}
 use Rattle.numbers.specs.Ops.{doubles}
 use Rattle.numbers.specs.Double.{zero64, one64, fmax}
 use Rattle.numbers.specs.MaxAbs.{maxAbs}
@@ -118,16 +119,46 @@ allRows poses (rel ∷ rels) = rowsAt poses rel ++ allRows poses rels
 abbrev pub rowsOf : Scene → List Float → List Float
 rowsOf s x = allRows (posesAt s x) (s .rels)
 
+-- ---- what a call chooses (document 02, 5/14)
+
+-- how far off a row may be; the most rounds of one run; the most rows that are iterated; what the dragged body's weights are multiplied by
+pub record Parameters : Type 0 where
+  pub tolerance : Float
+  pub rounds : ℕ
+  pub rowLimit : ℕ
+  pub dragWeight : Float
+
+-- a call that chooses nothing: 1e-9, 200, 800, 10000
+abbrev pub plain : Parameters
+plain = record { tolerance = ASSEMBLY; rounds = 200; rowLimit = 800; dragWeight = ofBits binary64 0x40C3_8800_0000_0000 }
+
+-- from lo to hi, both included; a NaN is not
+abbrev pub fromTo : Float → Float → Float → Bool
+fromTo lo hi x = le lo x && le x hi
+
+-- the finest tolerance is 1e-12, the coarsest 1e-3
+abbrev pub FINEST : Float
+FINEST = ofBits binary64 0x3D71_9799_812D_EA11
+
+abbrev pub COARSEST : Float
+COARSEST = ofBits binary64 0x3F50_624D_D2F1_A9FC
+
+-- rounds 1 to 1000, row limit 1 to 800, drag weight 1 to 1e8
+unfoldable pub inRange : Parameters → Bool
+inRange p =
+    fromTo FINEST COARSEST (p .tolerance) && ((leb 1 (p .rounds) && leb (p .rounds) 1000)
+    && ((leb 1 (p .rowLimit) && leb (p .rowLimit) 800) && fromTo one64 (ofBits binary64 0x4197_D784_0000_0000) (p .dragWeight)))
+
 -- ---- weights
 
 -- half the size, at least 1
 unfoldable pub halfSize : Float → Float
 halfSize size = fmax (mul binary64 size (ofBits binary64 0x3FE0_0000_0000_0000)) one64
 
--- 1e4 for the dragged body
-unfoldable pub dragFactor : Option ℕ → ℕ → Float
-dragFactor none i = one64
-dragFactor (some d) i = cond (eqb d i) (ofBits binary64 0x40C3_8800_0000_0000) one64
+-- the drag weight for the dragged body
+unfoldable pub dragFactor : Float → Option ℕ → ℕ → Float
+dragFactor weight none i = one64
+dragFactor weight (some d) i = cond (eqb d i) weight one64
 
 -- the six weights of a body: sliding, then turning by the square of half its size
 abbrev pub bodyWeights : Float → Float → List Float
@@ -136,14 +167,14 @@ bodyWeights scale half =
     let v = mul binary64 scale (mul binary64 half half) in
     w ∷ w ∷ w ∷ v ∷ v ∷ v ∷ []
 
-unfoldable pub weightsFrom : Option ℕ → ℕ → List Body → List (Option ℕ) → List Float
-weightsFrom drag i [] l = []
-weightsFrom drag i (b ∷ bodies) [] = []
-weightsFrom drag i (b ∷ bodies) (none ∷ l) = weightsFrom drag (suc i) bodies l
-weightsFrom drag i (b ∷ bodies) (some k ∷ l) = bodyWeights (dragFactor drag i) (halfSize (b .size)) ++ weightsFrom drag (suc i) bodies l
+unfoldable pub weightsFrom : Float → Option ℕ → ℕ → List Body → List (Option ℕ) → List Float
+weightsFrom weight drag i [] l = []
+weightsFrom weight drag i (b ∷ bodies) [] = []
+weightsFrom weight drag i (b ∷ bodies) (none ∷ l) = weightsFrom weight drag (suc i) bodies l
+weightsFrom weight drag i (b ∷ bodies) (some k ∷ l) = bodyWeights (dragFactor weight drag i) (halfSize (b .size)) ++ weightsFrom weight drag (suc i) bodies l
 
-abbrev pub weights : Scene → Option ℕ → List Float
-weights s drag = weightsFrom drag 0 (s .bodies) (layout s)
+abbrev pub weights : Scene → Float → Option ℕ → List Float
+weights s weight drag = weightsFrom weight drag 0 (s .bodies) (layout s)
 
 -- ---- `solve`
 
@@ -157,24 +188,20 @@ slightTurn i =
     (cond (eqb (i % 3) 0) (ofBits binary64 0x3FA9_9999_9999_999A) (cond (eqb (i % 3) 1) (ofBits binary64 0xBF9E_B851_EB85_1EB8) (ofBits binary64 0x3FB1_EB85_1EB8_51EC)))
     zero64
 
--- the most rounds of one run
-abbrev pub MAX-ITER : ℕ
-MAX-ITER = 200
-
-abbrev pub runFrom : Scene → Option ℕ → List Float → Outcome
-runFrom s drag x = run (rowsOf s) (map inverseWeight (weights s drag)) ASSEMBLY MAX-ITER x
+abbrev pub runFrom : Scene → Parameters → Option ℕ → List Float → Outcome
+runFrom s p drag x = run (rowsOf s) (map inverseWeight (weights s (p .dragWeight) drag)) (p .tolerance) (p .rounds) (p .rowLimit) x
 
 -- the first run, and the retry, which is kept where it converged or its largest row is strictly smaller
 unfoldable pub better : Scene → Outcome → Outcome → Outcome
 better s first retry =
     cond (retry .converged || lt (maxAbs (rowsOf s (retry .x))) (maxAbs (rowsOf s (first .x)))) retry first
 
-unfoldable pub solved : Scene → Option ℕ → Outcome
-solved s drag =
-    let first = runFrom s drag (listOf startAt (unknowns s)) in
+unfoldable pub solved : Scene → Parameters → Option ℕ → Outcome
+solved s p drag =
+    let first = runFrom s p drag (listOf startAt (unknowns s)) in
     elim (first .converged || eqb (unknowns s) 0) [
       | true ↦ first
-      | false ↦ better s first (runFrom s drag (listOf slightTurn (unknowns s)))
+      | false ↦ better s first (runFrom s p drag (listOf slightTurn (unknowns s)))
     ]
 
 -- the frame of a pose, squared anew; the body's own where none can be built
@@ -193,8 +220,11 @@ pub record Solution : Type 0 where
   pub errors : List Float
   pub converged : Bool
 
-unfoldable pub solve : Scene → Option ℕ → Solution
-solve s drag =
-    let o = solved s drag in
+unfoldable pub solveWith : Scene → Parameters → Option ℕ → Solution
+solveWith s p drag =
+    let o = solved s p drag in
     let poses = posesAt s (o .x) in
     record { poses = poses; frames = framesFrom poses (s .bodies); errors = map (λ rel. maxAbs (rowsAt poses rel)) (s .rels); converged = o .converged }
+
+abbrev pub solve : Scene → Option ℕ → Solution
+solve s drag = solveWith s plain drag

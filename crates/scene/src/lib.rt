@@ -1,2 +1,3 @@
-// Unknowns, poses, rows and weights of solve.rs over lent scratch.
+// Unknowns, poses, rows and weights of solve.rs over lent scratch, and what a call of `solve` chooses.
+pub mod parameters;
 pub mod scene;

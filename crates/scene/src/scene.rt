@@ -295,13 +295,13 @@ pub fn half_size(size: f64) -> f64
     numbers::max(size * 0.5, 1.0)
 }
 
-// 1e4 for the dragged body.
-fn drag_factor(drag: BodyRef, i: usize) -> f64
-    ensures { λ r. ⌜ r ≡ solve.dragFactor (bodyNumber drag) i ⌝ }
+// The drag weight for the dragged body.
+fn drag_factor(weight: f64, drag: BodyRef, i: usize) -> f64
+    ensures { λ r. ⌜ r ≡ solve.dragFactor weight (bodyNumber drag) i ⌝ }
 {
     match drag {
         BodyRef::Ground => 1.0,
-        BodyRef::Of(d) => if d == i { 1e4 } else { 1.0 },
+        BodyRef::Of(d) => if d == i { weight } else { 1.0 },
     }
 }
 
@@ -338,33 +338,41 @@ fn put_weights(
     scene: Scene,
     s: &mut [f64],
     at: usize,
+    weight: f64,
     drag: BodyRef,
     i: usize,
 ) -> usize
     requires { ⌜ spec.Laid (now sheet) scene ⌝ }
     requires { ⌜ i < scene .m ⌝ }
-    requires { ⌜ at + length (spec.inverseAt (now sheet) scene (bodyNumber drag) i) ≤ length (now s) ⌝ }
-    ensures { λ r. ⌜ spec.PutNext (now (s .entry)) (now (s .exit)) at r (length (spec.inverseAt (now (sheet .entry)) scene (bodyNumber drag) i)) (spec.inverseAt (now (sheet .entry)) scene (bodyNumber drag) i) ⌝ }
+    requires { ⌜ at + length (spec.inverseAt (now sheet) scene weight (bodyNumber drag) i) ≤ length (now s) ⌝ }
+    ensures { λ r. ⌜ spec.PutNext (now (s .entry)) (now (s .exit)) at r (length (spec.inverseAt (now (sheet .entry)) scene weight (bodyNumber drag) i)) (spec.inverseAt (now (sheet .entry)) scene weight (bodyNumber drag) i) ⌝ }
 {
     let first = scene.index[i];
     if first == 0xFFFF {
         return at;
     }
     let b = record::body_at(sheet, scene.bodies + 136 * i);
-    put_six(s, at, drag_factor(drag, i), half_size(b.size));
+    put_six(s, at, drag_factor(weight, drag, i), half_size(b.size));
     at + 6
 }
 
-// 1 over each unknown's weight, to the places from w on; `drag` is the dragged body.
-pub fn inverse_weights(sheet: &[u8], scene: Scene, s: &mut [f64], w: usize, drag: BodyRef)
+// 1 over each unknown's weight, to the places from w on; `weight` is the drag weight, `drag` the dragged body.
+pub fn inverse_weights(
+    sheet: &[u8],
+    scene: Scene,
+    s: &mut [f64],
+    w: usize,
+    weight: f64,
+    drag: BodyRef,
+)
     requires { ⌜ spec.Laid (now sheet) scene ⌝ }
     requires { ⌜ w + scene .n ≤ length (now s) ⌝ }
-    ensures { λ _. ⌜ spec.Put (now (s .entry)) (now (s .exit)) w (scene .n) (map lm.inverseWeight (solve.weights (spec.sceneOf (now (sheet .entry)) scene) (bodyNumber drag))) ⌝ }
+    ensures { λ _. ⌜ spec.Put (now (s .entry)) (now (s .exit)) w (scene .n) (map lm.inverseWeight (solve.weights (spec.sceneOf (now (sheet .entry)) scene) weight (bodyNumber drag))) ⌝ }
 {
     let m = scene.m;
     let mut at = w;
     for i in 0..m {
-        at = put_weights(sheet, scene, s, at, drag, i);
+        at = put_weights(sheet, scene, s, at, weight, drag, i);
     }
 }
 

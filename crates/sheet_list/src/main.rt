@@ -1,4 +1,4 @@
-// Replays the Rust's answers to the five calls, refusals included, and those of the Rust with a second program's gears put in, and prints how many answers each list holds
+// Replays the Rust's answers to the calls on a sheet, refusals included, and those of the Rust with a second program's gears put in, and prints how many answers each list holds
 // and how many of them differ here.
 // All bits are compared; all NaNs are the same. data/ has the lists, whose formats oracle/FORMATS.md gives.
 mod lent;
@@ -17,6 +17,7 @@ use sheet::calls::sheet_joint_reading;
 use sheet::calls::sheet_judge;
 use sheet::calls::sheet_snap;
 use solving::Call;
+use solving::Chosen;
 use solving::dof_right;
 use solving::solve_right;
 use std::num::wrapping_add_u64;
@@ -91,13 +92,44 @@ fn relation_right(fd: i32, s: &[u8], c: Call) -> bool {
 
 // Whether a call gives the list's answer.
 fn right(fd: i32, s: &[u8], scratch: &mut [f64], c: Call) -> bool {
-    if c.which == 3 {
+    if c.which == 3 || c.which == 5 {
         return solve_right(fd, s, scratch, c);
     }
     if c.which == 4 {
         return dof_right(fd, s, scratch, c);
     }
     relation_right(fd, s, c)
+}
+
+// The next word as a whole number of 32 bits; no list has one over that.
+fn whole(fd: i32) -> u32 {
+    let n = word(fd);
+    if n > 0xFFFF_FFFF {
+        return 0;
+    }
+    n as u32
+}
+
+// What a call chooses: four words for a call that chooses, none for any other.
+fn next_chosen(fd: i32, which: u64) -> Chosen {
+    if which != 5 {
+        return Chosen {
+            tolerance: 0.0,
+            rounds: 0,
+            limit: 0,
+            weight: 0.0,
+        };
+    }
+    let tolerance = list::double(fd);
+    let rounds = whole(fd);
+    let limit = whole(fd);
+    let weight = list::double(fd);
+    Chosen {
+        tolerance,
+        rounds,
+        limit,
+        weight,
+    }
 }
 
 fn next_call(fd: i32) -> Call {
@@ -107,6 +139,7 @@ fn next_call(fd: i32) -> Call {
     let first = word(fd);
     let second = word(fd);
     let third = word(fd);
+    let chosen = next_chosen(fd, which);
     word(fd);
     let want = word(fd);
     Call {
@@ -116,6 +149,7 @@ fn next_call(fd: i32) -> Call {
         first,
         second,
         third,
+        chosen,
         want,
     }
 }
@@ -245,6 +279,7 @@ fn replay_all(scratch: &mut [f64; 300_000]) {
     replay(b"sheets_solved.bin", List::Sheets, scratch);
     replay(b"sheets_limits.bin", List::Sheets, scratch);
     replay(b"sheets_geared.bin", List::Sheets, scratch);
+    replay(b"sheets_parameters.bin", List::Sheets, scratch);
 }
 
 fn main() {

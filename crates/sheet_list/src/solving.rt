@@ -8,8 +8,18 @@ use lists::list::word;
 use records::record::u16_at;
 use sheet::freedoms::sheet_dof;
 use sheet::solving::sheet_solve;
+use sheet::solving::sheet_solve_with;
 
-// A call as the list gives it: which one, the relation or the drag, how many doubles are lent of scratch and of each output, and the number that is answered.
+// What a call of `solve` chooses, as the list gives it; all 0 for a call that chooses nothing.
+pub struct Chosen {
+    pub tolerance: f64,
+    pub rounds: u32,
+    pub limit: u32,
+    pub weight: f64,
+}
+
+// A call as the list gives it: which one, the relation or the drag, how many doubles are lent of scratch and of each output, what it chooses, and the number that
+// is answered.
 pub struct Call {
     pub which: u64,
     pub number: u64,
@@ -17,6 +27,7 @@ pub struct Call {
     pub first: u64,
     pub second: u64,
     pub third: u64,
+    pub chosen: Chosen,
     pub want: u64,
 }
 
@@ -57,6 +68,36 @@ fn outputs_right(
     p & f & e & (converged as u64 == flag)
 }
 
+// `solve` by what the call chooses, if it is one that chooses.
+fn solve_number(
+    s: &[u8],
+    c: Call,
+    drag: u16,
+    scratch: &mut [f64],
+    poses: &mut [f64],
+    frames: &mut [f64],
+    errors: &mut [f64],
+    converged: &mut u8,
+) -> u32 {
+    if c.which == 3 {
+        return sheet_solve(s, drag, scratch, poses, frames, errors, converged);
+    }
+    let q = c.chosen;
+    sheet_solve_with(
+        s,
+        drag,
+        q.tolerance,
+        q.rounds,
+        q.limit,
+        q.weight,
+        scratch,
+        poses,
+        frames,
+        errors,
+        converged,
+    )
+}
+
 // As many doubles of each output are lent as the call says.
 fn solve_lent(
     fd: i32,
@@ -81,8 +122,9 @@ fn solve_lent(
     let f = c.second as usize;
     let e = c.third as usize;
     let mut converged = 77u8;
-    let number = sheet_solve(
+    let number = solve_number(
         s,
+        c,
         c.number as u16,
         &mut scratch[0..n],
         &mut poses[0..p],

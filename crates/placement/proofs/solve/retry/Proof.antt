@@ -3,7 +3,7 @@
 use mathlib.Core.Path.{_∙_}
 use native.Mathlib.Omega.{arith}
 use borrow.Author.Needs.{needs}
-use Rattle.scene.specs.Scene.{sceneOf}
+use Rattle.scene.specs.Scene.{sceneOf, parametersOf}
 use Rattle.rounds.proofs.RoundLaws.{arranged-same}
 use Rattle.placement.proofs.SolveLaws.{Again, again-is, retry-converged, retry-smaller, retry-larger}
 use Rattle.placement.proofs.solve.retry.Statement.{statement}
@@ -25,19 +25,19 @@ run-requires c κs =
 -- what the second run leaves, from the scratch at entry
 again : (c : tie.After-run)
     → let g = c .before .before .before .before .before .before .before .before .before .before .before .before .args in
-    Again (sceneOf (g .sheet .now) (g .scene)) (g .scene) (g .p) (g .s .now) (c .run .last .1 .1 .0) (c .run .result .converged)
+    Again (sceneOf (g .sheet .now) (g .scene)) (g .scene) (g .p) (parametersOf (g .q)) (g .s .now) (c .run .last .1 .1 .0) (c .run .result .converged)
 again c =
     let turned = c .before .before .before .before in
     let aside = turned .before .before .before .before in
     let o = aside .before .before .before .before in
     let g = o .args in
-    again-is (sceneOf (g .sheet .now) (g .scene)) (g .scene) (g .p) (g .s .now) _ _ _ _ (o .pre .1 .0) (aside .copy .ensures) (turned .put-turn .ensures) (c .run .ensures)
+    again-is (sceneOf (g .sheet .now) (g .scene)) (g .scene) (g .p) (parametersOf (g .q)) (g .s .now) _ _ _ _ (o .pre .1 .0) (aside .copy .ensures) (turned .put-turn .ensures) (c .run .ensures)
 
 same-length : tie.Need-same-length
 same-length c = search needs
 
 returns : tie.Need-returns
-returns c = λ first h e. retry-converged _ _ _ _ _ _ first (again (c .before .before .before)) (c .if1 .taken)
+returns c = λ first h e. retry-converged _ _ _ _ _ _ _ first (again (c .before .before .before)) (c .if1 .taken)
 
 worst-requires : tie.Need-worst-requires
 worst-requires c κs =
@@ -65,7 +65,7 @@ returns-2 c =
     let ran = failed .before .before .before in
     let o = ran .before .before .before .before .before .before .before .before .before .before .before .before in
     λ first h e.
-    retry-smaller _ _ _ _ _ _ first (again ran) _ _ _ _ (o .pre .1 .0) (failed .if1 .left) e (now .worst .ensures) (before .worst2 .ensures) (c .if2 .taken)
+    retry-smaller _ _ _ _ _ _ _ first (again ran) _ _ _ _ (o .pre .1 .0) (failed .if1 .left) e (now .worst .ensures) (before .worst2 .ensures) (c .if2 .taken)
 
 copy-requires-2 : tie.Need-copy-requires-2
 copy-requires-2 c κs =
@@ -89,7 +89,7 @@ returns-3 c =
     let ran = failed .before .before .before in
     let o = ran .before .before .before .before .before .before .before .before .before .before .before .before in
     λ first h e.
-    retry-larger _ _ _ _ _ _ first (again ran) _ _ _ _ (o .pre .1 .0) (failed .if1 .left) e (now .worst .ensures) (before .worst2 .ensures) _ h (larger .if2 .left)
+    retry-larger _ _ _ _ _ _ _ first (again ran) _ _ _ _ (o .pre .1 .0) (failed .if1 .left) e (now .worst .ensures) (before .worst2 .ensures) _ h (larger .if2 .left)
     (back .copy2 .ensures)
 
 pub retry-spec : {M : Type 1} → statement M

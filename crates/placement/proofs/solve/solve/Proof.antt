@@ -5,6 +5,7 @@ use native.Mathlib.Omega.{arith}
 use borrow.Author.Needs.{needs}
 use Rattle.relations.specs.Model.{bodyNumber}
 use lib.ListN.{length}
+use Rattle.scene.specs.Scene.{parametersOf}
 use Rattle.rounds.specs.Parts.{Arranged}
 use Rattle.rounds.proofs.RoundLaws.{arranged-as}
 use Rattle.placement.proofs.SolveLaws.{filled-is}
@@ -24,7 +25,7 @@ solved-requires : tie.Need-solved-requires
 solved-requires c κs =
     let arranged = c .before in
     let o = arranged .before .before .before .before .before .before in
-    (o .pre .0, (placed arranged, o .pre .1 .0 .1))
+    (o .pre .0, (placed arranged, (o .pre .1 .0 .1, o .pre .1 .0 .2)))
 
 poses-at-requires : tie.Need-poses-at-requires
 poses-at-requires c κs =
@@ -88,7 +89,7 @@ returns c =
     let posed = copied .before .before .before .before .before .before in
     let ran = posed .before .before .before .before in
     let g = ran .before .before .before .before .before .before .before .before .args in
-    filled-is (g .sheet .now) (g .scene) _ (bodyNumber (g .drag)) _ _ _ _ _ _ _ _ _ _ (ran .solved .ensures) (posed .poses-at .ensures) (copied .copy-out .ensures)
+    filled-is (g .sheet .now) (g .scene) _ (parametersOf (g .q)) (bodyNumber (g .drag)) _ _ _ _ _ _ _ _ _ _ (ran .solved .ensures) (posed .poses-at .ensures) (copied .copy-out .ensures)
     (frames .put-frames .ensures)
     (errors .put-errors .ensures)
 

@@ -3,7 +3,7 @@
 use mathlib.Core.Path.{_∙_}
 use borrow.Author.Needs.{needs}
 use Rattle.relations.specs.Model.{bodyNumber}
-use Rattle.scene.specs.Scene.{sceneOf}
+use Rattle.scene.specs.Scene.{sceneOf, parametersOf}
 use Rattle.rounds.proofs.RoundLaws.{arranged-same}
 use Rattle.placement.proofs.SolveLaws.{Begun, begun-is, first-converged, first-still, twice}
 use Rattle.placement.proofs.solve.solved.Statement.{statement}
@@ -25,13 +25,13 @@ run-requires c κs =
 -- what the first run leaves, from the scratch at entry
 begun : (c : tie.After-run)
     → let g = c .before .before .before .before .before .before .before .before .before .before .before .before .args in
-    Begun (sceneOf (g .sheet .now) (g .scene)) (g .scene) (g .p) (bodyNumber (g .drag)) (g .s .now) (c .run .last .1 .1 .0) (c .run .result .converged)
+    Begun (sceneOf (g .sheet .now) (g .scene)) (g .scene) (g .p) (parametersOf (g .q)) (bodyNumber (g .drag)) (g .s .now) (c .run .last .1 .1 .0) (c .run .result .converged)
 begun c =
     let started = c .before .before .before .before in
     let weighed = started .before .before .before .before in
     let o = weighed .before .before .before .before in
     let g = o .args in
-    begun-is (sceneOf (g .sheet .now) (g .scene)) (g .scene) (g .p) (bodyNumber (g .drag)) (g .s .now) _ _ _ _ (o .pre .0 .unknown-count) (o .pre .1 .0)
+    begun-is (sceneOf (g .sheet .now) (g .scene)) (g .scene) (g .p) (parametersOf (g .q)) (bodyNumber (g .drag)) (g .s .now) _ _ _ _ (o .pre .0 .unknown-count) (o .pre .1 .0)
     (weighed .inverse-weights .ensures)
     (started .put-start .ensures)
     (c .run .ensures)
@@ -43,7 +43,7 @@ returns : tie.Need-returns
 returns c =
     let ran = c .before .before .before in
     let o = ran .before .before .before .before .before .before .before .before .before .before .before .before in
-    first-converged _ _ _ _ _ _ _ (o .pre .0 .unknown-count) (begun ran) (c .if1 .taken)
+    first-converged _ _ _ _ _ _ _ _ (o .pre .0 .unknown-count) (begun ran) (c .if1 .taken)
 
 same-length-2 : tie.Need-same-length-2
 same-length-2 c = search needs
@@ -53,7 +53,7 @@ returns-2 c =
     let failed = c .before in
     let ran = failed .before .before .before in
     let o = ran .before .before .before .before .before .before .before .before .before .before .before .before in
-    first-still _ _ _ _ _ _ _ (o .pre .0 .unknown-count) (begun ran) (failed .if1 .left) (c .if2 .taken)
+    first-still _ _ _ _ _ _ _ _ (o .pre .0 .unknown-count) (begun ran) (failed .if1 .left) (c .if2 .taken)
 
 retry-requires : tie.Need-retry-requires
 retry-requires c κs =
@@ -71,7 +71,7 @@ returns-3 c =
     let failed = free .before in
     let ran = failed .before .before .before in
     let o = ran .before .before .before .before .before .before .before .before .before .before .before .before in
-    twice _ _ _ _ _ _ _ (o .pre .0 .unknown-count) (begun ran) _ _ (failed .if1 .left) (free .if2 .left) (retried .retry .ensures)
+    twice _ _ _ _ _ _ _ _ (o .pre .0 .unknown-count) (begun ran) _ _ (failed .if1 .left) (free .if2 .left) (retried .retry .ensures)
 
 pub solved-spec : {M : Type 1} → statement M
 solved-spec =

@@ -4,18 +4,19 @@ use mathlib.Core.Path.{_∙_}
 use Prim.Native.Nat.{_-_, _≤_}
 use native.Mathlib.Omega.{arith}
 use Rattle.scene.specs.Scene.{sceneOf}
-use Rattle.rounds.proofs.RoundLaws.{arranged-same, Going, going-start, going-in, going-stop, going-on, going-end}
+use Rattle.rounds.proofs.RoundLaws.{arranged-same}
+use Rattle.rounds.proofs.RunLaws.{Going, going-start, going-in, going-stop, going-on, going-end}
 use Rattle.rounds.proofs.rounds.rounds.Statement.{statement}
 use Rattle.rounds.proofs.rounds.rounds.Tie as tie
 
 abbrev Inv-loop : tie.InvT-loop
-Inv-loop sheet scene s₀ p cost mu c₀ d₀ i₀ s c d i = (i ≤ 200) × Going (sceneOf sheet scene) scene p s₀ s cost mu c d i
+Inv-loop sheet scene s₀ p tolerance most cost mu c₀ d₀ i₀ s c d i = (i ≤ most) × Going (sceneOf sheet scene) scene p s₀ s tolerance most cost mu c d i
 
 abbrev μ-loop : tie.MeasureT-loop
-μ-loop sheet scene s₀ p cost mu c₀ d₀ i₀ s c d i = 200 - i
+μ-loop sheet scene s₀ p tolerance most cost mu c₀ d₀ i₀ s c d i = most - i
 
 loop-holds : tie.Need-loop-holds Inv-loop μ-loop
-loop-holds c = (omega arith, going-start _ _ _ _ _ _)
+loop-holds c = (omega arith, going-start _ _ _ _ _ _ _ _)
 
 one-round-requires : tie.Need-one-round-requires Inv-loop μ-loop
 one-round-requires c κs =
@@ -30,11 +31,11 @@ within-requires c κs =
     let o = at .before .before .before in
     arranged-same (made .one-round .ensures .keeps .size ∙ at .loop .inv .1 .keeps .size) (o .pre .1 .0)
 
-add-t17 : tie.Need-add-t17 Inv-loop μ-loop
-add-t17 c = omega arith
+add-t19 : tie.Need-add-t19 Inv-loop μ-loop
+add-t19 c = omega arith
 
-add-t18 : tie.Need-add-t18 Inv-loop μ-loop
-add-t18 c = omega arith
+add-t20 : tie.Need-add-t20 Inv-loop μ-loop
+add-t20 c = omega arith
 
 same-length : tie.Need-same-length Inv-loop μ-loop
 same-length c =
@@ -49,7 +50,7 @@ returns c =
     let at = made .before .before .before in
     let g = at .before .before .before .args in
     let l = at .loop in
-    going-in (sceneOf (g .sheet .now) (g .scene)) (g .scene) (g .p) (g .s .now) (l .s) _ (g .cost) (g .mu) (l .c) (l .d) (l .i) (made .one-round .result) (omega arith) (l .inv .1) (made .one-round .ensures)
+    going-in (sceneOf (g .sheet .now) (g .scene)) (g .scene) (g .p) (g .s .now) (l .s) _ (g .tolerance) (g .most) (g .cost) (g .mu) (l .c) (l .d) (l .i) (made .one-round .result) (omega arith) (l .inv .1) (made .one-round .ensures)
     (test .within .result)
     (test .within .ensures)
     (c .if1 .taken)
@@ -68,7 +69,7 @@ returns-2 c =
     let at = made .before .before .before in
     let g = at .before .before .before .args in
     let l = at .loop in
-    going-stop (sceneOf (g .sheet .now) (g .scene)) (g .scene) (g .p) (g .s .now) (l .s) _ (g .cost) (g .mu) (l .c) (l .d) (l .i) (made .one-round .result) (omega arith) (l .inv .1) (made .one-round .ensures)
+    going-stop (sceneOf (g .sheet .now) (g .scene)) (g .scene) (g .p) (g .s .now) (l .s) _ (g .tolerance) (g .most) (g .cost) (g .mu) (l .c) (l .d) (l .i) (made .one-round .result) (omega arith) (l .inv .1) (made .one-round .ensures)
     (test .within .result)
     (test .within .ensures)
     (far .if1 .left)
@@ -88,7 +89,7 @@ loop-again c =
     let at = made .before .before .before in
     let g = at .before .before .before .args in
     let l = at .loop in
-    let on = going-on (sceneOf (g .sheet .now) (g .scene)) (g .scene) (g .p) (g .s .now) (l .s) _ (g .cost) (g .mu) (l .c) (l .d) (l .i) (made .one-round .result) (omega arith) (l .inv .1) (made .one-round .ensures) in
+    let on = going-on (sceneOf (g .sheet .now) (g .scene)) (g .scene) (g .p) (g .s .now) (l .s) _ (g .tolerance) (g .most) (g .cost) (g .mu) (l .c) (l .d) (l .i) (made .one-round .result) (omega arith) (l .inv .1) (made .one-round .ensures) in
     (omega arith, on (test .within .result) (test .within .ensures) (far .if1 .left) (c .if2 .taken))
 
 within-requires-2 : tie.Need-within-requires-2 Inv-loop μ-loop
@@ -105,7 +106,7 @@ returns-3 c =
     let at = c .before .before .before in
     let g = at .before .before .before .args in
     let l = at .loop in
-    going-end (sceneOf (g .sheet .now) (g .scene)) (g .scene) (g .p) (g .s .now) (l .s) (g .cost) (g .mu) (l .c) (l .d) (l .i) (c .within2 .result) (omega arith) (l .inv .1) (c .within2 .ensures)
+    going-end (sceneOf (g .sheet .now) (g .scene)) (g .scene) (g .p) (g .s .now) (l .s) (g .tolerance) (g .most) (g .cost) (g .mu) (l .c) (l .d) (l .i) (c .within2 .result) (omega arith) (l .inv .1) (c .within2 .ensures)
 
 pub rounds-spec : {M : Type 1} → statement M
 rounds-spec =
@@ -116,10 +117,10 @@ rounds-spec =
     loop-holds
     one-round-requires
     within-requires
-    add-t17
+    add-t19
     same-length
     returns
-    add-t18
+    add-t20
     same-length-2
     returns-2
     add-i

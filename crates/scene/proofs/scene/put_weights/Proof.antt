@@ -22,7 +22,7 @@ element-copy-out-first c = search needs
 returns : tie.Need-returns
 returns c =
     let g = c .before .before .before .before .args in
-    put-nothing _ _ _ (no-weights (g .sheet .now) (g .t2) (bodyNumber (g .drag)) (g .i) (c .if1 .taken))
+    put-nothing _ _ _ (no-weights (g .sheet .now) (g .t2) (g .weight) (bodyNumber (g .drag)) (g .i) (c .if1 .taken))
 
 mul-body-at : tie.Need-mul-body-at
 mul-body-at c = search needs
@@ -44,7 +44,7 @@ put-six-requires c κs =
     let moving = c .before .before .before .before in
     let o = moving .before .before .before .before in
     let g = o .args in
-    let six : length (inverseAt (g .sheet .now) (g .t2) (bodyNumber (g .drag)) (g .i)) ≡ 6 = ap length (some-weights (g .sheet .now) (g .t2) (bodyNumber (g .drag)) (g .i) (moving .if1 .left)) in
+    let six : length (inverseAt (g .sheet .now) (g .t2) (g .weight) (bodyNumber (g .drag)) (g .i)) ≡ 6 = ap length (some-weights (g .sheet .now) (g .t2) (g .weight) (bodyNumber (g .drag)) (g .i) (moving .if1 .left)) in
     omega (arith, o .pre .1 .1)
 
 add-result : tie.Need-add-result
@@ -54,7 +54,7 @@ add-result c =
     let o = moving .before .before .before .before in
     let g = o .args in
     let z = put .put-six .ensures .kept .size in
-    let six : length (inverseAt (g .sheet .now) (g .t2) (bodyNumber (g .drag)) (g .i)) ≡ 6 = ap length (some-weights (g .sheet .now) (g .t2) (bodyNumber (g .drag)) (g .i) (moving .if1 .left)) in
+    let six : length (inverseAt (g .sheet .now) (g .t2) (g .weight) (bodyNumber (g .drag)) (g .i)) ≡ 6 = ap length (some-weights (g .sheet .now) (g .t2) (g .weight) (bodyNumber (g .drag)) (g .i) (moving .if1 .left)) in
     omega (arith, o .pre .1 .1)
 
 same-length : tie.Need-same-length
@@ -70,7 +70,7 @@ returns-2 c =
     let g = moving .before .before .before .before .args in
     let d = drag .drag-factor .ensures in
     let h = half .half-size .ensures ∙ ap halfSize (ap (λ (b : Body). b .size) (body .body-at .ensures)) in
-    let six = some-weights (g .sheet .now) (g .t2) (bodyNumber (g .drag)) (g .i) (moving .if1 .left) in
+    let six = some-weights (g .sheet .now) (g .t2) (g .weight) (bodyNumber (g .drag)) (g .i) (moving .if1 .left) in
     put-six-is _ _ _ _ _ _ refl (six ∙ sym (λ v. map inverseWeight (bodyWeights (d v) (h v)))) refl (put .put-six .ensures)
 
 pub put-weights-spec : {M : Type 1} → statement M

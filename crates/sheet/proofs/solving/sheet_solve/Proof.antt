@@ -1,38 +1,13 @@
--- `sheet::solving::sheet_solve` answers as `SolveAnswer` says: what `solve_fault` refuses leaves everything as it was (`refused`); what it lets through is
--- long enough for `solve` (`asked`), whose answer for the scene read and the body dragged is the sheet's (`answered`). By the laws of SolvingLaws. Assumes
--- nothing.
-use mathlib.Core.Path.{sym, _∙_}
+-- `sheet::solving::sheet_solve` answers as `SolveAnswer` says: it is `solve_by` with what `plain` gives. Assumes nothing.
 use borrow.Author.Needs.{needs}
-use Rattle.relations.specs.Model.{bodyNumber}
-use Rattle.sheet.proofs.SolvingLaws.{accepted, answered, asked, refused}
 use Rattle.sheet.proofs.solving.sheet_solve.Statement.{statement}
 use Rattle.sheet.proofs.solving.sheet_solve.Tie as tie
 
--- what is lent, at entry
-abbrev entry : tie.After-solve-fault → tie.Start
-entry c = c .before .before .before .before .before .before
+plain-requires : tie.Need-plain-requires
+plain-requires c κs = search needs
 
-solve-fault-requires : tie.Need-solve-fault-requires
-solve-fault-requires c κs = search needs
-
-scene-in-requires : tie.Need-scene-in-requires
-scene-in-requires c κs =
-    let tested = c .before in
-    accepted _ _ _ _ _ _ (sym (tested .solve-fault .ensures) ∙ c .if1 .taken) .sheet
-
-drag-body-requires : tie.Need-drag-body-requires
-drag-body-requires c κs = search needs
-
-solve-requires : tie.Need-solve-requires
-solve-requires c κs =
-    let drag = c .before .before .before .before in
-    let read = drag .before in
-    let passed = read .before in
-    let tested = passed .before in
-    asked _ _ (read .scene-in .ensures) _ _ _ _ _ _ (tested .solve-fault .ensures) (passed .if1 .taken)
-
-flag-requires : tie.Need-flag-requires
-flag-requires c κs = search needs
+solve-by-requires : tie.Need-solve-by-requires
+solve-by-requires c κs = search needs
 
 same-length : tie.Need-same-length
 same-length c = search needs
@@ -48,36 +23,9 @@ same-length-4 c = search needs
 
 returns : tie.Need-returns
 returns c =
-    let solved = c .before .before .before .before .before .before .before .before .before in
-    let drag = solved .before .before .before .before .before in
-    let read = drag .before in
-    let passed = read .before in
-    let tested = passed .before in
-    let g = entry tested .args in
-    answered (g .sheet .now) _ _ _ _ _ _ _ _ _ _ _ _ _ (bodyNumber (drag .drag-body .result)) _ (tested .solve-fault .ensures) (passed .if1 .taken)
-    (read .scene-in .ensures)
-    (drag .drag-body .ensures)
-    (search needs)
-    (solved .solve .ensures)
-    (c .flag .ensures)
-
-returns-2 : tie.Need-returns-2
-returns-2 c =
-    let tested = c .before in
-    refused (entry tested .args .sheet .now) _ _ _ _ _ _ _ (tested .solve-fault .ensures) (c .if1 .left)
+    let answer = c .before .before .before .before .before .before .before .before in
+    let chosen = answer .before .before .before .before .before .before in
+    rw (← chosen .plain .ensures) (answer .solve-by .ensures)
 
 pub sheet-solve-spec : {M : Type 1} → statement M
-sheet-solve-spec =
-    tie.close
-    (tie.spec
-    solve-fault-requires
-    scene-in-requires
-    drag-body-requires
-    solve-requires
-    flag-requires
-    same-length
-    same-length-2
-    same-length-3
-    same-length-4
-    returns
-    returns-2)
+sheet-solve-spec = tie.close (tie.spec plain-requires solve-by-requires same-length same-length-2 same-length-3 same-length-4 returns)
