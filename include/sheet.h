@@ -75,13 +75,13 @@ uint32_t sheet_solve(const uint8_t *sheet, size_t sheet_len, uint16_t drag, doub
  *   rounds       1 to 1000: the most rounds of a run; there are at most two runs. sheet_solve takes 200.
  *   row_limit    1 to 800: with more rows than this no round is made; the bodies stay where they are, or are turned slightly
  *                if that brings the largest row down. sheet_solve takes 800.
- *   drag_weight  1 to 1e8: how many times as much the dragged body weighs as without a drag. With 1 it gives way as any other,
- *                with 1e8 it hardly moves. sheet_solve takes 10000.
+ *   drag_weight  1 to 1e8: how many times as much the dragged body weighs as without a drag. With 1 it gives way as any other;
+ *                the larger, the more the others come to it. sheet_solve takes 10000.
  *
- * For a class of beginners 1e-3 is enough: 1 then says that no relation is off by more than a micrometre, or a thousandth of
- * its other unit, and the work ends earlier. For finishing, 1e-12: 1 then says that every row is at most that, and 0 may mean
- * no more than that doubles do not come so near at this size; the errors tell how near they came. Every error is told as
- * sheet_solve tells it, whatever the tolerance.
+ * For a class of beginners 1e-3 is enough: 1 then says that every row is at most a thousandth, for a distance a micrometre
+ * along each axis, and the work ends earlier. For finishing, 1e-12: 1 then says that every row is at most that, and 0 may
+ * mean no more than that doubles come no nearer at this size; the errors tell how near they came. A row is meant as doubles
+ * give it, and as the errors tell it, whatever the tolerance.
  *
  * A parameter that is a NaN or outside its range is refused by 15, after 8 and before 10 and 9. All else is as for
  * sheet_solve, and with 1e-9, 200, 800 and 10000 so is the answer, bit for bit. */

@@ -4,7 +4,9 @@
 
 OUT/tenon is tenon's solver, OUT/tenon_max the same with `max` as document 01 has it (the larger zero
 is +0), which tells whether that difference ever shows, OUT/tenon_gear the second with law 7, a gear,
-whose row is that of src/gear.rs. Nothing of them is kept in the repository.
+whose row is that of src/gear.rs. In all three the tolerance, the rounds, the row limit and the drag weight
+of `solve` are variables, which are tenon's constants until a caller sets them. Nothing of them is kept in
+the repository.
 
 Every change is a textual substitution with the number of places it must meet. Where a source is not
 as expected, the build stops here and says which substitution failed.
@@ -27,7 +29,11 @@ CHANGES = {
          "    pub origin: Vec3,\n    pub x: Vec3,\n    pub y: Vec3,\n    pub z: Vec3,\n}", 1),
     ],
     "geom/src/tol.rs": [],
-    "sketch/src/lm.rs": [("\nfn norm2", "\npub fn norm2", 1), ("\nfn solve_dense", "\npub fn solve_dense", 1)],
+    "sketch/src/lm.rs": [
+        ("\nfn norm2", "\npub fn norm2", 1),
+        ("\nfn solve_dense", "\npub fn solve_dense", 1),
+        ("rows > MAX_ROWS", "rows > crate::parameters().row_limit", 1),
+    ],
     "assembly/src/math.rs": [
         ("t.sin_cos()", "(arcs::sine(t), arcs::cosine(t))", 1),
         ("c.len().atan2(d)", "arcs::arctangent(c.len(), d)", 1),
@@ -54,6 +60,13 @@ CHANGES = {
         ("pub struct Solution {\n", "pub struct Solution {\n    pub poses: Vec<Pose>,\n", 1),
         ("Solution { frames, converged: outcome.converged, errors: rel_errors(rels, &poses) }",
          "let errors = rel_errors(rels, &poses);\n    Solution { poses, frames, converged: outcome.converged, errors }", 1),
+        # The constants stay, and a run goes by them until a caller sets others; their uses become those of the run's parameters.
+        ("\nconst MAX_ITER", "\npub const MAX_ITER", 1),
+        ("\nconst DRAG_WEIGHT", "\npub const DRAG_WEIGHT", 1),
+        ("drag: Option<usize>) -> Solution {\n", "drag: Option<usize>) -> Solution {\n    let set = crate::begin(0);\n", 1),
+        ("{ DRAG_WEIGHT }", "{ set.drag_weight }", 1),
+        ("        let retry = lm::solve(", "        let set = crate::begin(1);\n        let retry = lm::solve(", 1),
+        ("tol::ASSEMBLY, MAX_ITER", "set.tolerance, set.rounds", 2),
     ],
 }
 
@@ -97,17 +110,17 @@ BRANCHES = [
      "if !y.iter().all(|v| v.is_finite()) { HIT; }\n    y.iter().all(|v| v.is_finite()).then_some(y)"),
     ("lm::solve: holds at the start", "sketch/src/lm.rs", "if rows == 0 || max_abs(&r) <= tol {\n",
      "if rows == 0 || max_abs(&r) <= tol {\n        HIT;\n"),
-    ("lm::solve: nothing may move", "sketch/src/lm.rs", "if free.is_empty() || rows > MAX_ROWS {\n",
-     "if free.is_empty() { HIT; }\n    if free.is_empty() || rows > MAX_ROWS {\n"),
-    ("lm::solve: over 800 rows", "sketch/src/lm.rs", "    let rows = r.len();\n    if rows == 0",
-     "    let rows = r.len();\n    if rows > MAX_ROWS { HIT; }\n    if rows == 0"),
+    ("lm::solve: nothing may move", "sketch/src/lm.rs", "    if free.is_empty() || rows > ",
+     "    if free.is_empty() { HIT; }\n    if free.is_empty() || rows > "),
+    ("lm::solve: over the row limit", "sketch/src/lm.rs", "    let rows = r.len();\n    if rows == 0",
+     "    let rows = r.len();\n    if rows > crate::parameters().row_limit { HIT; }\n    if rows == 0"),
     ("lm::solve: round", "sketch/src/lm.rs", "        iter += 1;\n", "        iter += 1;\n        HIT;\n"),
     ("lm::solve: step accepted", "sketch/src/lm.rs", "                improved = true;\n", "                HIT;\n                improved = true;\n"),
     ("lm::solve: step refused", "sketch/src/lm.rs", "            }\n            mu *= 10.0;\n        }", "            }\n            HIT;\n            mu *= 10.0;\n        }"),
     ("lm::solve: step too far, squares not finite", "sketch/src/lm.rs", "            let cn = norm2(&rn);\n",
      "            let cn = norm2(&rn);\n            if !cn.is_finite() { HIT; }\n"),
     ("lm::solve: twelve trials in vain", "sketch/src/lm.rs", "        if !improved {\n", "        if !improved {\n            HIT;\n"),
-    ("lm::solve: 200 rounds done", "sketch/src/lm.rs", "    let converged = max_abs(&r) <= tol;\n",
+    ("lm::solve: all rounds done", "sketch/src/lm.rs", "    let converged = max_abs(&r) <= tol;\n",
      "    if iter == max_iter { HIT; }\n    let converged = max_abs(&r) <= tol;\n"),
     ("exp: linear", "assembly/src/math.rs", "        if t < 1e-12 {\n", "        if t < 1e-12 {\n            HIT;\n"),
     ("rotation_between: along", "assembly/src/math.rs", "        if d > 0.0 {\n", "        if d > 0.0 {\n            HIT;\n"),
@@ -148,6 +161,42 @@ pub mod tol;
 mod vec;
 pub use space::{Axis, Frame};
 pub use vec::{Vec2, Vec3};
+
+/// The four constants of `solve` as variables.
+#[derive(Clone, Copy, Debug, PartialEq)]
+pub struct Parameters {
+    pub tolerance: f64,
+    pub rounds: usize,
+    pub row_limit: usize,
+    pub drag_weight: f64,
+}
+impl Parameters {
+    /// Tenon's own.
+    pub const TENON: Parameters = Parameters {
+        tolerance: tol::ASSEMBLY,
+        rounds: solve::MAX_ITER,
+        row_limit: lm::MAX_ROWS,
+        drag_weight: solve::DRAG_WEIGHT,
+    };
+}
+thread_local! {
+    /// Those of the first run and of the second, and which of the two began last.
+    static OF_RUNS: std::cell::Cell<[Parameters; 2]> = const { std::cell::Cell::new([Parameters::TENON; 2]) };
+    static RUN: std::cell::Cell<usize> = const { std::cell::Cell::new(0) };
+}
+/// Sets what first and second runs go by from here on. The drag weight is the first's.
+pub fn set_parameters(of_runs: [Parameters; 2]) {
+    OF_RUNS.set(of_runs);
+}
+/// Begins the first run, 0, or the second, 1.
+pub fn begin(run: usize) -> Parameters {
+    RUN.set(run);
+    parameters()
+}
+/// What the run goes by that began last.
+pub fn parameters() -> Parameters {
+    OF_RUNS.get()[RUN.get()]
+}
 
 /// How often each branch was taken.
 pub static COVER: [std::sync::atomic::AtomicU64; NAMES.len()] = [const { std::sync::atomic::AtomicU64::new(0) }; NAMES.len()];

@@ -1,11 +1,11 @@
 #!/usr/bin/env bash
-# Compares the port with the Rust: the arcs and the root of target/staticlib/libarcs.a, the five calls on a sheet of libsheet.a beside it, and
+# Compares the port with the Rust: the arcs and the root of target/staticlib/libarcs.a, the six calls on a sheet of libsheet.a beside it, and
 # the program target/bin/report. Each must be there and built after the last change of the crates' sources. The oracle is built from
-# tenon's unchanged sources (build.sh) and held to document 01's examples and to the frozen lists. Sheets with gears, which tenon does not
-# have, are compared with the second program's rows (src/gear.rs), put into a copy of tenon; the sixth call, which writes a sheet and which
-# tenon does not have either, with a second writer (src/writing.rs); the number that opening a sheet gives, on sheets with any byte changed,
-# with the oracle's own reader (src/sheet.rs). Every comparison prints how much it compared. Ends with 0 if nothing differs and every kind of
-# case that is wanted was met.
+# tenon's unchanged sources (build.sh) and held to document 01's examples and to the frozen lists. The call that solves with a set of
+# parameters is compared with the Rust whose four constants are the set's. Sheets with gears, which tenon does not have, are compared with
+# the second program's rows (src/gear.rs), put into a copy of tenon; the call that writes a sheet, which tenon does not have either, with a
+# second writer (src/writing.rs); the number that opening a sheet gives, on sheets with any byte changed, with the oracle's own reader
+# (src/sheet.rs). Every comparison prints how much it compared. Ends with 0 if nothing differs and every kind of case that is wanted was met.
 # Where tenon's sources or rustc are missing it says that nothing was compared, and ends with 0, or with 1 if CI is set.
 # Takes 110 to 180 s on two cores, by what else they do.
 set -u
@@ -114,6 +114,7 @@ step build/oracle sheet 2 8000
 step limits
 step build/oracle run-report ../tools/report.sh 3 300
 step build/oracle gears 6 600 ../tools/report.sh
+step build/oracle parameters 7 800 ../examples/*.sheet
 step build/oracle opening
 step build/oracle write 4 12000 ../examples/*.sheet
 step lists_and_rows

@@ -5,7 +5,8 @@
 
 The page's own tables are worked: formulas by tools/formulas.py, and relations, bodies and headers by the page's offsets.
 Nothing of the solver's code or of the Rust is used. The frozen answers are those of the Rust, and for gears and for saving, which
-it does not have, those of a second program of ours. The comparisons:
+it does not have, those of a second program of ours; for calls that choose parameters, those of the Rust built with what is chosen.
+The comparisons:
 
   rows        crates/row_list/data/rows.bin, the Rust's, and gear_rows.bin, our second program's: every row and every error, bit
               for bit; the unit of every row, by doubling all lengths
@@ -15,10 +16,14 @@ it does not have, those of a second program of ours. The comparisons:
               refused with
   solved      sheets_solved.bin, the Rust's, and sheets_geared.bin, our second program's: where still bodies stand, every error at
               the poses, what converged says, what is filled in
+  parameters  sheets_parameters.bin there: which number every call gives that chooses parameters; of every accepted one the same as of
+              the solved ones, by its own tolerance; that over the row limit nothing moves but by the slight turn, and that a body
+              dragged by the weight 1 is as one that is not dragged
   written     crates/write_list/data/scenes_written.bin, our second program's: which number every scene gives that is lent for
               saving, and every byte of the sheet of each that is accepted; reading the sheet as laid out gives the number that the
               tests of its records give
-  numbers     each number of the table "Numbers", and of the text on solving and freedom, stands in a definition named beside it
+  numbers     each number of the table "Numbers", and of the text on solving and freedom, stands in a definition named beside it,
+              and each of the table "Parameters" where these definitions speak of that parameter
   names       each definition that the page names stands in the file that it names
   sketches    each sketch that the page shows is there, as tools/sketches.py draws it, and there is no other
 
@@ -34,7 +39,7 @@ from collections import Counter
 
 sys.dont_write_bytecode = True
 import sketches
-from formulas import Line, Page, bits, largest, names_in, parsed
+from formulas import NAN, Line, Page, bits, double, largest, names_in, parsed
 
 ROOT = pathlib.Path(__file__).resolve().parent.parent
 ROWS = ROOT / "crates" / "row_list" / "data"
@@ -118,6 +123,33 @@ class Group:
         return "as written" if kinds == self.ends else "exchanged" if self.both and kinds == self.ends[::-1] else False
 
 
+# how the words of a set are read, in their order
+SET = {"tolerance": double, "rounds": int, "rowLimit": int, "dragWeight": double}
+
+
+class Parameter:
+    """A line of the table "Parameters": a range, and the number without a choice."""
+
+    def __init__(self, row):
+        self.name, self.row = code(row["parameter"]), row
+        self.whole = SET.get(self.name) is int
+        self.least, self.most, self.plain = ((int if self.whole else float)(row[c]) for c in ("from", "to", "without a choice"))
+        if not self.holds(self.plain):
+            problem(f"{self.name}: the number without a choice is outside its range")
+
+    def holds(self, value):
+        return self.least <= value <= self.most
+
+    def accepted(self):
+        return [self.least, self.most]
+
+    def refused(self):
+        """The numbers next to the ends, and a NaN where it is a double."""
+        if self.whole:
+            return [self.least - 1, self.most + 1]
+        return [math.nextafter(self.least, -math.inf), math.nextafter(self.most, math.inf), NAN]
+
+
 class Definitions:
     """The page as the script works with it."""
 
@@ -155,13 +187,18 @@ class Definitions:
         for of, size in (("pose", 12), ("frame", 12), ("freedom", 29)):
             if [i for part in self.filled[of] for i in part] != list(range(size)):
                 problem(f"the doubles of a {of} are not 0 to {size - 1} in order")
-        found = re.search(r"relations in order, each by (\d+(?:, then \d+)*)\.", self.text)
-        if not found:
-            raise ValueError("the page does not say by which tests a relation goes")
-        self.tests = [1, 2, 3, 4] + [int(n) for n in found.group(1).split(", then ")]
+        self.tests = [1, 2, 3, 4] + self.said(r"relations in order, each by (\d+(?:, then \d+)*)\.", "by which tests a relation goes")
         faults = {f.fault for fields in self.fields.values() for f in fields if f.fault}
         if len(set(self.tests)) != len(self.tests) or faults | {1} != set(self.tests):
             problem(f"the tests of the text are {self.tests}, and the faults of the tables {sorted(faults)}")
+        self.given = self.said(r"tested after the sheet, by (\d+(?:, \d+)*)", "by which tests what else a call is given goes")
+        self.parameters = {p.name: p for p in map(Parameter, self.table("Parameters", "parameter").rows)}
+        if list(self.parameters) != list(SET):
+            problem(f"the parameters are not {', '.join(SET)}")
+        self.refusal, = self.said(r"a parameter that is a NaN or outside its range is refused by (\d+)\.", "what a parameter outside its range is refused by")
+        if sorted(self.given) != sorted({8, 9, 10, 11, 12, 13, self.refusal}):
+            problem(f"the tests of what else a call is given are {self.given}")
+        self.said(r"\*\*Converged\*\* is (1) where every relation's error is at most the `tolerance` of the call,", "where converged is 1")
         self.saving = Saving(self)
         self.met = Counter()
 
@@ -171,11 +208,22 @@ class Definitions:
             raise ValueError(f"the page has {len(found)} tables under {heading!r} whose first column is {first!r}")
         return found[0]
 
+    def values(self, name):
+        """What the table "Numbers" has for a definition."""
+        return [float(v) for row in self.table("Numbers", "number").rows if row["number"].startswith(f"`{name}` in ") for v in row["value"].split(", ")]
+
     def section(self, heading):
         found = re.search(rf"^## {heading}\n(.*?)(?=^## |\Z)", self.text, re.M | re.S)
         if not found:
             raise ValueError(f"the page has no part {heading!r}")
         return found.group(1)
+
+    def said(self, pattern, what):
+        """The numbers of a sentence of the page."""
+        found = re.search(pattern, self.text)
+        if not found:
+            raise ValueError(f"the page does not say {what}")
+        return [int(n) for n in re.findall(r"\d+", found.group(1))]
 
     def size(self, name):
         """The bytes that the page gives the record, which its fields fill without a gap."""
@@ -259,6 +307,13 @@ class Definitions:
             out += [(v, group) for v in values]
         return out
 
+    def error(self, rel, poses):
+        """A relation's error where it is not compared bit for bit; what is met for it does not count."""
+        met = self.met.copy(), self.page.met.copy()
+        error = largest([v for v, _ in self.rows(rel, poses)])
+        self.met, self.page.met = met
+        return error
+
     def unmet(self):
         for group in self.groups:
             for order in ["as written", "exchanged"] if group.both else ["as written"]:
@@ -268,6 +323,9 @@ class Definitions:
         for line in list(self.page.lines()) + list(self.gaps.values()) + list(self.readings.values()):
             if not self.page.met[line]:
                 yield line.what
+        for p in self.parameters.values():
+            yield from (f"a call accepted with the {p.name} {value!r}" for value in p.accepted() if not self.met[p, bits(value)])
+            yield from (f"a call refused for the {p.name} {value!r} alone" for value in p.refused() if not self.met[p, bits(value)])
         for part in self.saving.parts:
             if not self.met[part]:
                 yield f"a scene {'refused' if part.idle else 'saved'} with {part} that is not 0"
@@ -730,7 +788,7 @@ def compare_fields(d):
 
 
 def sheets_of(path):
-    """Each sheet with its calls: which call, its six words, and the answer's words."""
+    """Each sheet with its calls: which call, its six words, four more of a set where it chooses one, and the answer's words."""
     sheets = List(path)
     for _ in range(sheets.count):
         length = sheets.word()
@@ -738,6 +796,7 @@ def sheets_of(path):
         calls = []
         for _ in range(sheets.word()):
             head = sheets.words(6)
+            head += sheets.words(len(SET)) if head[0] == 5 else []
             n = sheets.word()
             calls.append((head, sheets.bytes(8 * n)))
         yield sheet, calls
@@ -772,56 +831,187 @@ def unused_are_zero(d, v):
     return all(c in (0, 1, 2, 3) for c in counts) and not any(map(bits, rest))
 
 
+class Sheet:
+    """A sheet that is not refused: its bodies, its relations, and which bodies move."""
+
+    def __init__(self, d, data):
+        header = d.read("Header", data, 0)
+        self.bodies = [d.read("Body", data, header["bodies"] + d.sizes["Body"] * j) for j in range(header["m"])]
+        self.rels = [d.read("Relation", data, header["relations"] + d.sizes["Relation"] * j) for j in range(header["k"])]
+        named = {rel[e]["body"] for rel in self.rels for e in "ABS" if d.uses(e, d.numbers["law"][rel["law"]])}
+        self.moves = [not body["fixed"] and j in named for j, body in enumerate(self.bodies)]
+
+
+class Compared:
+    """How much was compared of the answers of `solve`."""
+
+    def __init__(self):
+        self.laws, self.flags, self.still, self.frames = Counter(), Counter(), 0, 0
+
+    def all(self, laws):
+        return all(self.laws[law] for law in laws) and self.still and self.frames and self.flags[0] and self.flags[1]
+
+    def __str__(self):
+        return f"errors of {sum(self.laws.values())} relations at the poses found, {self.still} of {self.frames} bodies that stay, {self.flags[1]} answers converged and {self.flags[0]} not"
+
+
+def compare_answer(d, where, sheet, answer, tolerance, compared):
+    """Still bodies keep their frames' poses, errors are those of the page's rows, converged says whether all are within the tolerance. Gives the poses and the rows."""
+    m, k = len(sheet.bodies), len(sheet.rels)
+    flag, doubles = struct.unpack_from("<Q", answer, 8)[0], struct.unpack_from(f"<{24 * m + k}d", answer, 16)
+    poses, errors = [pose_of(doubles[12 * j:12 * j + 12], *d.filled["pose"]) for j in range(m)], doubles[24 * m:]
+    rows = [[v for v, _ in d.rows(rel, poses)] for rel in sheet.rels]
+    if not same(map(largest, rows), errors):
+        problem(f"{where}: the errors differ")
+    if flag != all(largest(r) <= tolerance for r in rows):
+        problem(f"{where}: converged is {flag} in the list")
+    for j, body in enumerate(sheet.bodies):
+        frame = doubles[12 * (m + j):12 * (m + j) + 12]
+        frame = {name: tuple(frame[n] for n in part) for name, part in zip(("origin", "x", "y", "z"), d.filled["frame"])}
+        compared.frames += 1
+        if not same(frame["origin"], poses[j]["t"]) and frame != {name: body[name] for name in frame}:
+            problem(f"{where}: the frame of body {j} stands neither at its pose nor where it was")
+        if not sheet.moves[j]:
+            compared.still += 1
+            if any(not same(d.pose(body)[part], poses[j][part]) for part in poses[j]):
+                problem(f"{where}: body {j} does not stand where its frame puts it")
+    compared.laws.update(d.numbers["law"][rel["law"]] for rel in sheet.rels)
+    compared.flags[flag] += 1
+    return poses, rows
+
+
 def compare_solved(d):
     compare_answers(d, "sheets_solved.bin", [law for law in d.counts if law != "gear"])
     compare_answers(d, "sheets_geared.bin", ["gear"])
 
 
 def compare_answers(d, name, laws):
-    """Still bodies keep their frames' poses, errors are those of the page's rows, converged says whether all are within the tolerance. The list has these laws."""
-    tolerance = float(next(r["value"] for r in d.table("Numbers", "number").rows if r["number"].startswith("`ASSEMBLY`")))
-    relations, still, frames, freedoms, flags = Counter(), 0, 0, 0, Counter()
-    for i, (sheet, calls) in enumerate(sheets_of(SHEETS / name)):
-        if sheet_fault(d, sheet):
+    """Answers of calls that choose nothing, and freedoms. The list has these laws."""
+    compared, freedoms = Compared(), 0
+    for i, (data, calls) in enumerate(sheets_of(SHEETS / name)):
+        if sheet_fault(d, data):
             continue
-        header = d.read("Header", sheet, 0)
-        m, k = header["m"], header["k"]
-        bodies = [d.read("Body", sheet, header["bodies"] + d.sizes["Body"] * j) for j in range(m)]
-        rels = [d.read("Relation", sheet, header["relations"] + d.sizes["Relation"] * j) for j in range(k)]
-        named = {rel[e]["body"] for rel in rels for e in "ABS" if d.uses(e, d.numbers["law"][rel["law"]])}
+        sheet = Sheet(d, data)
+        m = len(sheet.bodies)
         for head, answer in calls:
-            refused, first = struct.unpack_from("<QQ", answer) if len(answer) > 8 else (1, 0)
-            if head[0] == 4 and not refused:
-                doubles = struct.unpack_from(f"<{29 * m}d", answer, 16)
-                for j in range(m):
-                    freedoms += 1
-                    if not unused_are_zero(d, doubles[29 * j:29 * j + 29]):
-                        problem(f"{name}, sheet {i}: the freedom of body {j} is not laid out as on the page")
-            if head[0] != 3 or refused:
+            if head[0] not in (3, 4) or struct.unpack_from("<Q", answer)[0]:
                 continue
-            doubles = struct.unpack_from(f"<{24 * m + k}d", answer, 16)
-            poses, errors = [pose_of(doubles[12 * j:12 * j + 12], *d.filled["pose"]) for j in range(m)], doubles[24 * m:]
-            mine = [largest([v for v, _ in d.rows(rel, poses)]) for rel in rels]
-            if not same(mine, errors):
-                problem(f"{name}, sheet {i}: the errors differ")
-            if first != all(e <= tolerance for e in mine):
-                problem(f"{name}, sheet {i}: converged is {first} in the list")
-            for j, body in enumerate(bodies):
-                frame = doubles[12 * (m + j):12 * (m + j) + 12]
-                frame = {name: tuple(frame[n] for n in part) for name, part in zip(("origin", "x", "y", "z"), d.filled["frame"])}
-                frames += 1
-                if not same(frame["origin"], poses[j]["t"]) and frame != {name: body[name] for name in frame}:
-                    problem(f"{name}, sheet {i}: the frame of body {j} stands neither at its pose nor where it was")
-                if body["fixed"] or j not in named:
-                    still += 1
-                    if any(not same(d.pose(body)[part], poses[j][part]) for part in poses[j]):
-                        problem(f"{name}, sheet {i}: body {j} does not stand where its frame puts it")
-            relations.update(d.numbers["law"][rel["law"]] for rel in rels)
-            flags[first] += 1
-    if not (all(relations[law] for law in laws) and still and frames and freedoms and flags[0] and flags[1]):
+            if head[0] == 3:
+                compare_answer(d, f"{name}, sheet {i}", sheet, answer, d.parameters["tolerance"].plain, compared)
+                continue
+            doubles = struct.unpack_from(f"<{29 * m}d", answer, 16)
+            for j in range(m):
+                freedoms += 1
+                if not unused_are_zero(d, doubles[29 * j:29 * j + 29]):
+                    problem(f"{name}, sheet {i}: the freedom of body {j} is not laid out as on the page")
+    if not (compared.all(laws) and freedoms):
         problem(f"{name}: not all was compared")
-    print(f"solved: {name}, errors of {sum(relations.values())} relations at the poses found, {still} of {frames} bodies that stay, {flags[1]} answers converged and {flags[0]} not; {freedoms} freedoms")
-    print("  relations by law " + ", ".join(f"{law}: {relations[law]}" for law in d.counts if relations[law]))
+    print(f"solved: {name}, {compared}; {freedoms} freedoms")
+    print("  relations by law " + ", ".join(f"{law}: {compared.laws[law]}" for law in d.counts if compared.laws[law]))
+
+
+def given_faults(d, sheet, head, chosen, short):
+    """The numbers of the tests that a call of `solve` fails by what it is given beside the sheet; `short` doubles of scratch, or fewer, are too few."""
+    _, drag, scratch, poses, frames, errors = head[:6]
+    m, k = len(sheet.bodies), len(sheet.rels)
+    pose, frame = (sum(map(len, d.filled[of])) for of in ("pose", "frame"))
+    fails = {8: drag != 65535 and drag >= m, d.refusal: not all(p.holds(value) for p, value in chosen.items()),
+             10: poses < pose * m or frames < frame * m or errors < k, 9: scratch <= short}
+    return {number for number, failed in fails.items() if failed}
+
+
+def start_of_run(d, sheet, w):
+    """The poses with each moving body turned by w about its centre: exact for no turn, else as near as sine and cosine are."""
+    angle = math.hypot(*w)
+
+    def turn(v):
+        if not angle:
+            return v
+        x, y, z = (c / angle for c in w)
+        along, across = x * v[0] + y * v[1] + z * v[2], (y * v[2] - z * v[1], z * v[0] - x * v[2], x * v[1] - y * v[0])
+        return tuple(v[i] * math.cos(angle) + across[i] * math.sin(angle) + (x, y, z)[i] * along * (1 - math.cos(angle)) for i in range(3))
+
+    def moved(body):
+        arm = turn(tuple(o - c for o, c in zip(body["origin"], body["centre"])))
+        return {"x": turn(body["x"]), "y": turn(body["y"]), "z": turn(body["z"]), "origin": tuple(c + a for c, a in zip(body["centre"], arm))}
+
+    return [d.pose(moved(body) if moves else body) for body, moves in zip(sheet.bodies, sheet.moves)]
+
+
+def near(poses, others):
+    """Whether no number of the poses is more than 1e-9 off."""
+    return all(abs(x - y) <= 1e-9 for p, q in zip(poses, others) for part in p for x, y in zip(p[part], q[part]))
+
+
+def compare_chosen(d, where, sheet, head, chosen, answer, compared, alike):
+    """An accepted answer by what its call chose, and beside those before it on the same sheet, `alike`, where all that has a say is the same. Gives, of each kind of answer that the list must have, whether it is one."""
+    tolerance, rounds, limit, weight = chosen.values()
+    poses, rows = compare_answer(d, where, sheet, answer, tolerance, compared)
+    flag, worst, plain = struct.unpack_from("<Q", answer, 8)[0], largest([largest(r) for r in rows]), d.parameters["tolerance"].plain
+    first, slight = start_of_run(d, sheet, (0.0, 0.0, 0.0)), start_of_run(d, sheet, d.values("slightTurn"))
+    at_first, at_slight, moving = poses == first, near(poses, slight), any(sheet.moves)
+    within = all(d.error(rel, first) <= tolerance for rel in sheet.rels)
+    if within and not (at_first and flag):
+        problem(f"{where}: all rows are within the tolerance at the start, and the answer is another")
+    count = sum(map(len, rows))
+    over = count > limit and moving
+    if over and not (at_first or at_slight):
+        problem(f"{where}: {count} rows are over the row limit, and the answer is not at the start of a run")
+    dragged = head[1] != 65535 and sheet.moves[head[1]]
+    before, was_dragged = alike.setdefault((tolerance, rounds, limit, (head[1], weight) if dragged and weight != 1 else None), (answer, dragged))
+    if answer != before:
+        problem(f"{where}: a call before it has the same parameters and weights, and another answer")
+    return {
+        "flag 1 with an error over the tolerance without a choice": flag and worst > plain,
+        "flag 0 with none over it": not flag and worst <= plain,
+        "flag 1 with an error of the tolerance": flag and worst == tolerance,
+        "flag 0 with an error of the double after it": not flag and worst == math.nextafter(tolerance, math.inf),
+        "over the row limit and within the tolerance at the start": over and within,
+        "over it and where the frames put the bodies": over and at_first and not flag,
+        "over it and slightly turned": over and at_slight,
+        "with as many rows as it and moved": count == limit and moving and not (at_first or at_slight),
+        "dragged by the weight 1 as without a drag": dragged != was_dragged,
+    }
+
+
+def compare_parameters(d):
+    """sheets_parameters.bin: the number that each call gives by the page's order of tests, and what an accepted one answers. How much scratch is short is left to the list."""
+    name, compared, numbers, both, kinds, count = "sheets_parameters.bin", Compared(), Counter(), Counter(), Counter(), 0
+    order = [n for n in d.given if n in (8, d.refusal, 10, 9)]
+    number_of = lambda answer: struct.unpack_from("<Q", answer)[0]
+    for i, (data, calls) in enumerate(sheets_of(SHEETS / name)):
+        own = sheet_fault(d, data)
+        sheet, alike = None if own else Sheet(d, data), {}
+        short = max((head[2] for head, answer in calls if number_of(answer) == 9), default=-1)
+        for j, (head, answer) in enumerate(calls):
+            where, number, count = f"{name}, sheet {i}, call {j}", number_of(answer), count + 1
+            chosen = {p: SET[p.name](word) for p, word in zip(d.parameters.values(), head[6:], strict=True)}
+            faults = {own} if own else given_faults(d, sheet, head, chosen, short)
+            mine = own or next((n for n in order if n in faults), 0)
+            if mine != number:
+                problem(f"{where}, {', '.join(f'{p.name} {value!r}' for p, value in chosen.items())}: {mine} by the page and {number} in the list")
+                continue
+            numbers[number] += 1
+            both.update(pair for pair in zip(order, order[1:]) if faults >= set(pair))
+            bad = {p: value for p, value in chosen.items() if not p.holds(value)}
+            if not number:
+                d.met.update((p, bits(float(value))) for p, value in chosen.items())
+                for kind, met in compare_chosen(d, where, sheet, head, chosen, answer, compared, alike).items():
+                    kinds[kind] += bool(met)
+            elif number == d.refusal and len(bad) == 1:
+                d.met.update((p, bits(float(value))) for p, value in bad.items())
+    if not compared.all(d.counts) or not all(numbers[n] for n in [0] + order):
+        problem(f"{name}: not all was compared")
+    for pair in zip(order, order[1:]):
+        if not both[pair]:
+            problem(f"{name}: no call fails by {pair[0]} and by {pair[1]}")
+    for kind in kinds:
+        if not kinds[kind]:
+            problem(f"{name}: no answer {kind}")
+    said = ", ".join(f"{n}: {numbers[n]}" for n in sorted(numbers))
+    print(f"parameters: {sum(numbers.values())} of {count} calls as in {name}, by number {said}; {compared}")
+    print("  answers by kind " + ", ".join(f"{kind}: {kinds[kind]}" for kind in kinds))
+    print("  relations by law " + ", ".join(f"{law}: {compared.laws[law]}" for law in d.counts))
 
 
 def compare_written(d):
@@ -909,6 +1099,17 @@ def compare_numbers(d):
             count += 1
             if not text or not stands(value, text):
                 problem(f"the number {value} does not stand in {row['number']}")
+    part = d.section("Solving").partition("### Parameters\n")[2]
+    texts = {name: cited(name, file) or "" for names, file in CITED.findall(part) for name in re.findall(r"`([\w-]+)`", names)}
+    for p in d.parameters.values():
+        # what the ranges, and the set of a call without a choice, say of this parameter; a constant that is named there is looked up
+        ranges = [x for x in texts["inRange"].split("&&") if f"(p .{p.name})" in x]
+        plain = re.findall(rf"[{{;] {p.name} = ([^;}}]*)", texts["plain"])
+        for column, pieces in (("from", ranges), ("to", ranges), ("without a choice", plain)):
+            count += 1
+            named = [texts.get(name, "") for name in re.findall(r"\b[A-Z]{2,}\b", " ".join(pieces))]
+            if not any(stands(p.row[column], text) for text in pieces + named):
+                problem(f"{p.name}: {p.row[column]}, {column}, does not stand where the definitions speak of it")
     told = 0
     for item in re.findall(r"^- .*(?:\n  .*)*", d.section("Solving") + d.section("Freedom"), re.M):
         texts = list(filter(None, (cited(name, file) for names, file in CITED.findall(item) for name in re.findall(r"`([\w-]+)`", names))))
@@ -947,7 +1148,7 @@ def main():
     path = pathlib.Path(sys.argv[1]) if len(sys.argv) == 2 else ROOT / "docs" / "DEFINITIONS.md"
     try:
         d = Definitions(path.read_text(encoding="utf-8"))
-        for compare in (compare_rows, compare_functions, compare_readings, compare_fields, compare_refused, compare_solved, compare_written, compare_numbers, compare_names, compare_sketches):
+        for compare in (compare_rows, compare_functions, compare_readings, compare_fields, compare_refused, compare_solved, compare_parameters, compare_written, compare_numbers, compare_names, compare_sketches):
             compare(d)
         for what in d.unmet():
             problem(f"met by nothing in the lists: {what}")

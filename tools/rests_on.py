@@ -20,6 +20,7 @@ CALLS = [
     ("sheet_joint_reading", "sheet/src/calls.rt"),
     ("sheet_snap", "sheet/src/calls.rt"),
     ("sheet_solve", "sheet/src/solving.rt"),
+    ("sheet_solve_with", "sheet/src/solving.rt"),
     ("sheet_dof", "sheet/src/freedoms.rt"),
     ("sheet_write", "sheet/src/saving.rt"),
     ("save", "saving/src/save.rt"),

@@ -1,17 +1,43 @@
 //! A call, its answer, and both as plain text: one line a thing, doubles as 16 hexadecimal digits.
 
+/// A set of parameters for `solve`, by request 5/14.
+#[derive(Clone, Copy, Debug, PartialEq)]
+pub struct Set {
+    /// The most that an error may be where the flag is 1.
+    pub tolerance: f64,
+    /// The most rounds of each run.
+    pub rounds: u32,
+    /// The most rows that are iterated.
+    pub row_limit: u32,
+    /// What the six weights of a dragged body are multiplied by.
+    pub drag_weight: f64,
+}
+
+impl Set {
+    /// What a call without a set means.
+    pub const PLAIN: Set = Set { tolerance: 1e-9, rounds: 200, row_limit: 800, drag_weight: 10000.0 };
+
+    /// Whether each parameter is within its range, ends included; a NaN is within none.
+    pub fn is_in_range(&self) -> bool {
+        let whole = (1..=1000).contains(&self.rounds) && (1..=800).contains(&self.row_limit);
+        whole && (1e-12..=1e-3).contains(&self.tolerance) && (1.0..=1e8).contains(&self.drag_weight)
+    }
+}
+
 /// A call and the lengths of what is lent to it, in doubles.
 #[derive(Clone, Copy, Debug, PartialEq)]
 pub enum Call {
     Judge { relation: u16 },
     Reading { relation: u16 },
     Snap { relation: u16, motion: usize },
-    Solve { drag: u16, scratch: usize, poses: usize, frames: usize, errors: usize },
+    Solve { drag: u16, set: Option<Set>, scratch: usize, poses: usize, frames: usize, errors: usize },
     Dof { scratch: usize, freedoms: usize },
 }
 
 /// The calls' names, by `Call::number`.
-pub const NAMES: [&str; 5] = ["judge", "joint_reading", "snap", "solve", "dof"];
+pub const NAMES: [&str; 6] = ["judge", "joint_reading", "snap", "solve", "dof", "solve_with"];
+/// The numbers of those that take no set.
+pub const BARE: [usize; 5] = [0, 1, 2, 3, 4];
 
 impl Call {
     pub fn number(self) -> usize {
@@ -19,8 +45,9 @@ impl Call {
             Call::Judge { .. } => 0,
             Call::Reading { .. } => 1,
             Call::Snap { .. } => 2,
-            Call::Solve { .. } => 3,
+            Call::Solve { set: None, .. } => 3,
             Call::Dof { .. } => 4,
+            Call::Solve { set: Some(_), .. } => 5,
         }
     }
     pub fn name(self) -> &'static str {

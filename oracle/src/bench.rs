@@ -1,7 +1,7 @@
 //! Time per call of the linked arcs, root, `solve` and `dof` beside Rust's own on the same arguments, of opening a sheet beside the oracle's own
 //! reader, and of writing beside the second writer, in one run. Not a test.
 
-use crate::answer::Call;
+use crate::answer::{Call, Set};
 use crate::rng::Rng;
 use crate::{port, sheet, whole, writing};
 use std::hint::black_box;
@@ -32,7 +32,7 @@ pub fn run() -> bool {
     true
 }
 
-/// Opening each sheet, 200 times a run; `solve` and `dof` on it, both sides from its bytes on; writing its scene, tests included.
+/// Opening each sheet, 200 times a run; `solve` and `dof` on it, both sides from its bytes on, `solve` also to 1e-3 and to 1e-12; writing its scene, tests included.
 pub fn sheets(files: &[&str]) -> bool {
     let lots = 2_000_000;
     let mut scratch = vec![f64::NAN; lots];
@@ -44,10 +44,10 @@ pub fn sheets(files: &[&str]) -> bool {
         let theirs = opened(&|| drop(black_box(sheet::read(&bytes))));
         let ours = opened(&|| _ = black_box(port::opening(&bytes)));
         println!("open   {m:2} bodies, {k:3} relations: {ours:9.3} us   Rust {theirs:9.3} us   ratio {:.2}", ours / theirs);
-        let calls = [
-            ("solve", Call::Solve { drag: sheet::GROUND, scratch: lots, poses: 12 * m, frames: 12 * m, errors: k }),
-            ("dof", Call::Dof { scratch: lots, freedoms: 29 * m }),
-        ];
+        let solve = |set| Call::Solve { drag: sheet::GROUND, set, scratch: lots, poses: 12 * m, frames: 12 * m, errors: k };
+        let within = |tolerance| solve(Some(Set { tolerance, ..Set::PLAIN }));
+        let calls =
+            [("solve", solve(None)), ("coarse", within(1e-3)), ("fine", within(1e-12)), ("dof", Call::Dof { scratch: lots, freedoms: 29 * m })];
         for (name, call) in calls {
             let theirs = milliseconds(&mut || {
                 black_box(whole::answer(&bytes, call)).ok();

@@ -1,13 +1,13 @@
 // The calls on a sheet, answered by tenon: included over `tenon`, `tenon_max` and `tenon_gear`. Each place gives `gear_of`, the law of a gear.
-// A call's tests 13, 8, 11, 12, 10, 9 and its answer as document 01 lays them out.
+// A call's tests 13, 8, 11, 12, 15, 10, 9 and its answer as document 01 and request 5/14 lay them out.
 
-use crate::answer::{Answer, Call};
+use crate::answer::{Answer, Call, Set};
 use crate::sheet::{self, Sheet};
 use tenon::geometry::Prim;
 use tenon::math::M3;
 use tenon::model::JointKind;
 use tenon::solve::{self, Body, End, Law, Pose, Rel};
-use tenon::{Frame, Vec3};
+use tenon::{Frame, Parameters, Vec3};
 
 /// A sheet as tenon's solver takes it.
 pub struct Scene {
@@ -106,8 +106,9 @@ fn refusal(scene: &Scene, call: Call) -> Result<(), u32> {
             test((relation as usize) < k, 13)?;
             test(motion >= 12, 10)
         }
-        Call::Solve { drag, scratch, poses, frames, errors } => {
+        Call::Solve { drag, set, scratch, poses, frames, errors } => {
             test(drag == sheet::GROUND || (drag as usize) < m, 8)?;
+            test(set.is_none_or(|set| set.is_in_range()), 15)?;
             test(poses >= 12 * m && frames >= 12 * m && errors >= k, 10)?;
             test(scratch >= scene.solve_scratch(), 9)
         }
@@ -135,6 +136,32 @@ fn freedom_list(d: &solve::BodyDof) -> Vec<f64> {
     out
 }
 
+fn parameters(set: Set) -> Parameters {
+    Parameters { tolerance: set.tolerance, rounds: set.rounds as usize, row_limit: set.row_limit as usize, drag_weight: set.drag_weight }
+}
+/// What a call without a set goes by.
+pub fn own() -> Set {
+    let Parameters { tolerance, rounds, row_limit, drag_weight } = Parameters::TENON;
+    Set { tolerance, rounds: rounds as u32, row_limit: row_limit as u32, drag_weight }
+}
+
+/// What `solve` fills in if its first run goes by the one and its second by the other.
+fn solved(scene: &Scene, drag: u16, of_runs: [Parameters; 2]) -> Answer {
+    tenon::set_parameters(of_runs);
+    let drag = (drag != sheet::GROUND).then_some(drag as usize);
+    let s = solve::solve(&scene.bodies, &scene.rels, drag);
+    Answer::Solve {
+        poses: s.poses.iter().flat_map(|p| pose_list(&p.r, p.t)).collect(),
+        frames: s.frames.iter().flat_map(frame_list).collect(),
+        errors: s.errors,
+        converged: s.converged,
+    }
+}
+/// The same by two sets, whose ranges are not tested.
+pub fn by_runs(sheet: &Sheet, drag: u16, sets: [Set; 2]) -> Answer {
+    solved(&Scene::of(sheet), drag, sets.map(parameters))
+}
+
 /// What an accepted call fills in.
 pub fn accepted(scene: &Scene, call: Call) -> Answer {
     match call {
@@ -147,16 +174,7 @@ pub fn accepted(scene: &Scene, call: Call) -> Answer {
             let motion = solve::snap(&scene.bodies, &scene.rels[relation as usize]);
             Answer::Snap { motion: pose_list(&motion.r, motion.t) }
         }
-        Call::Solve { drag, .. } => {
-            let drag = (drag != sheet::GROUND).then_some(drag as usize);
-            let s = solve::solve(&scene.bodies, &scene.rels, drag);
-            Answer::Solve {
-                poses: s.poses.iter().flat_map(|p| pose_list(&p.r, p.t)).collect(),
-                frames: s.frames.iter().flat_map(frame_list).collect(),
-                errors: s.errors,
-                converged: s.converged,
-            }
-        }
+        Call::Solve { drag, set, .. } => solved(scene, drag, [set.map_or(Parameters::TENON, parameters); 2]),
         Call::Dof { .. } => {
             let (bodies, free) = solve::dof(&scene.bodies, &scene.rels);
             Answer::Dof { freedoms: bodies.iter().flat_map(freedom_list).collect(), free: free as u32 }
@@ -187,7 +205,7 @@ pub fn report(input: &[u8]) -> String {
     let bytes = &input[..input.len().min(42_521)];
     let run = || -> Result<String, u32> {
         let (m, k) = (sheet::MOST_BODIES, sheet::MOST_RELATIONS);
-        let solve = Call::Solve { drag: sheet::GROUND, scratch: 8192, poses: 12 * m, frames: 12 * m, errors: k };
+        let solve = Call::Solve { drag: sheet::GROUND, set: None, scratch: 8192, poses: 12 * m, frames: 12 * m, errors: k };
         let solved = answer(bytes, solve)?;
         let dof = answer(bytes, Call::Dof { scratch: 8192, freedoms: 29 * m })?;
         let (Answer::Solve { errors, converged, .. }, Answer::Dof { freedoms, free }) = (solved, dof) else { unreachable!() };

@@ -1,6 +1,6 @@
 //! Comparisons: tenon with document 01's `max`, the linked arcs, the linked sheet library, the program report.
 
-use crate::answer::{Answer, Call, bits, hex, text, words};
+use crate::answer::{Answer, BARE, Call, bits, hex, text, words};
 use crate::arguments as args;
 use crate::cover::Cover;
 use crate::edges;
@@ -31,10 +31,10 @@ fn cases(seed: u64, n: usize, mut ask: impl FnMut(&[u8], Call) -> Result<Answer,
             let answer = ask(&bytes, call);
             cover.call(call, &answer);
             cover.lengths(&sheet, call, &answer);
-            if let Call::Solve { drag, scratch, poses, frames, errors } = call
+            if let Call::Solve { drag, set, scratch, poses, frames, errors } = call
                 && drag != GROUND
             {
-                let without = ask(&bytes, Call::Solve { drag: GROUND, scratch, poses, frames, errors });
+                let without = ask(&bytes, Call::Solve { drag: GROUND, set, scratch, poses, frames, errors });
                 cover.add("solve with drag, another answer than without".into(), (answer.is_ok() && words(&without) != words(&answer)) as u64);
             }
         }
@@ -178,14 +178,16 @@ pub fn kept(name: &str, bytes: &[u8]) -> String {
 pub struct Library {
     run: &'static str,
     scratch: Vec<f64>,
-    tallies: [Tally; 5],
+    tallies: [Tally; 6],
+    /// The calls that must be asked, by their numbers.
+    calls: &'static [usize],
     by_max: u64,
 }
 
 impl Library {
-    pub fn new(run: &'static str) -> Library {
-        let names = ["sheet_judge", "sheet_joint_reading", "sheet_snap", "sheet_solve", "sheet_dof"];
-        Library { run, scratch: Vec::new(), tallies: names.map(Tally::new), by_max: 0 }
+    pub fn new(run: &'static str, calls: &'static [usize]) -> Library {
+        let names = ["sheet_judge", "sheet_joint_reading", "sheet_snap", "sheet_solve", "sheet_dof", "sheet_solve_with"];
+        Library { run, scratch: Vec::new(), tallies: names.map(Tally::new), calls, by_max: 0 }
     }
 
     /// Compares answer or refusal, and what must stay as it was; gives the Rust's answer.
@@ -205,20 +207,20 @@ impl Library {
 
     pub fn done(&self) -> bool {
         println!("answers that differ from the Rust's release by the max of two zeros alone: {}", self.by_max);
-        self.tallies.iter().fold(true, |good, tally| tally.done() & good)
+        self.calls.iter().fold(true, |good, call| self.tallies[*call].done() & good)
     }
 }
 
 /// The sheet library against the Rust on the cases of a seed.
 pub fn sheet(seed: u64, n: usize) -> bool {
-    let mut library = Library::new("seed");
+    let mut library = Library::new("seed", &BARE);
     let cover = cases(seed, n, |bytes, call| library.ask(bytes, call));
     library.done() & cover.done()
 }
 
 /// The sheet library against the Rust at the limits of bodies, relations and rows, and on the sheets in these files.
 pub fn limits(files: &[&str]) -> bool {
-    let (mut library, mut cover) = (Library::new("limits"), Cover::default());
+    let (mut library, mut cover) = (Library::new("limits", &BARE), Cover::default());
     cover.want_most();
     let mut ask = |bytes: &[u8], call: Call| {
         let before = edges::rounds();

@@ -8,7 +8,7 @@ use std::sync::atomic::Ordering;
 pub const LAWS: [&str; 8] = ["mate", "flush", "angle", "insert", "tangent", "symmetry", "joint", "gear"];
 pub const JOINTS: [&str; 6] = ["rigid", "revolute", "slider", "cylindrical", "planar", "ball"];
 pub const PRIMS: [&str; 4] = ["plane", "line", "point", "circle"];
-/// The refusals that each call can give.
+/// The refusals that each call without a set can give.
 const REFUSALS: [&[u32]; 5] = [
     &[1, 2, 3, 4, 5, 6, 7, 11, 12, 13, 14],
     &[1, 2, 3, 4, 5, 6, 7, 13, 14],

@@ -1,18 +1,22 @@
 //! What the comparisons must meet at the edges: lent lengths, drags, doubles at their limits, the most bodies, relations and rows.
 //! Each function that begins with `want` enters its kinds at 0; the one after it counts them.
 
-use crate::answer::{Answer, Call, NAMES};
+use crate::answer::{Answer, BARE, Call, NAMES};
 use crate::cover::Cover;
 use crate::sheet::*;
 use crate::whole;
 use std::sync::atomic::Ordering;
 
-/// How many rounds the Rust has taken in all, and how many second runs.
-pub fn rounds() -> [u64; 2] {
-    ["lm::solve: round", "solve: tried again"].map(|counter| {
-        let at = tenon::NAMES.iter().position(|name| *name == counter).unwrap();
-        tenon::COVER[at].load(Ordering::Relaxed)
+/// How often the Rust, with gears and without, has taken these branches in all.
+pub fn taken<const N: usize>(branches: [&str; N]) -> [u64; N] {
+    branches.map(|branch| {
+        let at = tenon::NAMES.iter().position(|name| *name == branch).unwrap();
+        tenon::COVER[at].load(Ordering::Relaxed) + tenon_gear::COVER[at].load(Ordering::Relaxed)
     })
+}
+/// How many rounds it has taken, and how many second runs.
+pub fn rounds() -> [u64; 2] {
+    taken(["lm::solve: round", "solve: tried again"])
 }
 
 /// What a call is lent: each slice's name, its length, what it must be at least, and the number that a shorter one is refused by.
@@ -32,7 +36,7 @@ impl Cover {
     pub fn want_lengths(&mut self) {
         let lent = [
             Call::Snap { relation: 0, motion: 0 },
-            Call::Solve { drag: GROUND, scratch: 0, poses: 0, frames: 0, errors: 0 },
+            Call::Solve { drag: GROUND, set: None, scratch: 0, poses: 0, frames: 0, errors: 0 },
             Call::Dof { scratch: 0, freedoms: 0 },
         ];
         for call in lent {
@@ -59,7 +63,7 @@ impl Cover {
     }
 
     pub fn want_doubles(&mut self) {
-        for (call, limit) in NAMES.iter().flat_map(|call| [SIZE, AXIS].map(|limit| (call, limit))) {
+        for (call, limit) in BARE.iter().flat_map(|call| [SIZE, AXIS].map(|limit| (NAMES[*call], limit))) {
             self.add(format!("{call} accepted, a double of {limit}"), 0);
             self.add(format!("{call} refused 7, the double after {limit}"), 0);
         }
@@ -79,7 +83,7 @@ impl Cover {
     }
 
     pub fn want_most(&mut self) {
-        for call in NAMES {
+        for call in BARE.map(|call| NAMES[call]) {
             for size in ["64 bodies", "128 relations", "64 bodies and 128 relations"] {
                 self.add(format!("{call} accepted, {size}"), 0);
             }

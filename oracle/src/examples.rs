@@ -1,11 +1,13 @@
-//! Document 01's own examples, asked of the oracle: the table of refusals, report's text, the marked cases; and a gear's, by request 1/14.
+//! Document 01's own examples, asked of the oracle: the table of refusals, report's text, the marked cases; a gear's, by request 1/14; and what
+//! request 5/14 says of sets of parameters.
 
-use crate::answer::{Answer, Call};
+use crate::answer::{Answer, Call, Set};
 use crate::generate;
 use crate::plain::body_of;
 use crate::sheet::*;
 use crate::trains::{pose_of, worked};
 use crate::whole::{answer, report};
+use crate::{plain, with_gears, with_max01};
 use tenon::{lm, solve};
 
 fn check(failed: &mut u32, what: &str, good: bool) {
@@ -27,7 +29,7 @@ pub fn run() -> bool {
     let one = named("an unnamed free body");
     let lots = 2_000_000;
     let judge = Call::Judge { relation: 0 };
-    let solve_with = |drag, scratch, frames| Call::Solve { drag, scratch, poses: lots, frames, errors: lots };
+    let solve_with = |drag, scratch, frames| Call::Solve { drag, set: None, scratch, poses: lots, frames, errors: lots };
     let solved = |s: &Sheet| answer(&s.bytes(), solve_with(GROUND, lots, lots));
     let converged = |s: &Sheet| matches!(solved(s), Ok(Answer::Solve { converged: true, .. }));
 
@@ -85,7 +87,8 @@ pub fn run() -> bool {
     holds("800 rows", converged(&named("800 rows")));
     holds("801 rows", !converged(&named("801 rows")));
     gears(&example.bodies[0], &mut holds);
-    println!("document 01's and request 1/14's examples: {count}, {failed} do not hold");
+    sets(&limits, &mut holds);
+    println!("examples of document 01 and of requests 1/14 and 5/14: {count}, {failed} do not hold");
     failed == 0
 }
 
@@ -102,7 +105,7 @@ fn gears(world: &Body, holds: &mut impl FnMut(&str, bool)) {
     };
     let judge = Call::Judge { relation: 0 };
     let refused = |bytes: &[u8], number: u32| answer(bytes, judge) == Err(number);
-    let solve = Call::Solve { drag: GROUND, scratch: 1000, poses: 24, frames: 24, errors: 1 };
+    let solve = Call::Solve { drag: GROUND, set: None, scratch: 1000, poses: 24, frames: 24, errors: 1 };
     let error = |s: &Sheet| if let Ok(Answer::Solve { errors, .. }) = answer(&s.bytes(), solve) { errors[0] } else { f64::NAN };
     let row = |s: &Sheet| worked(&s.relations[0], &[0, 1].map(|i| pose_of(&s.bodies[i]))).row;
     let of_teeth = |teeth: [u16; 2]| with(&|r| r.teeth = teeth).bytes();
@@ -135,4 +138,34 @@ fn gears(world: &Body, holds: &mut impl FnMut(&str, bool)) {
         let motion = [[1.0, 0.0, 0.0, 0.0], [1.0, 0.0, 0.0, 0.0], [1.0, 0.0, 0.0, 0.0]].concat();
         answer(&with(&|_| ()).bytes(), Call::Snap { relation: 0, motion: 12 }) == Ok(Answer::Snap { motion })
     });
+}
+
+/// Request 5/14: what no set means, the ranges, the place of 15 among the tests, the flag and the row limit.
+fn sets(limits: &[(&str, Sheet)], holds: &mut impl FnMut(&str, bool)) {
+    let plain = Set { tolerance: 1e-9, rounds: 200, row_limit: 800, drag_weight: 10000.0 };
+    for own in [plain::own(), with_max01::own(), with_gears::own()] {
+        holds("no set", own == plain);
+    }
+    let named = |name: &str| limits.iter().find(|(n, _)| *n == name).unwrap().1.bytes();
+    let (one, lots) = (named("an unnamed free body"), 2_000_000);
+    let ask = |bytes: &[u8], set: Set, drag: u16, frames: usize| {
+        answer(bytes, Call::Solve { drag, set: Some(set), scratch: lots, poses: lots, frames, errors: lots })
+    };
+    let tolerance = |tolerance: f64| Set { tolerance, ..plain };
+    let drag_weight = |drag_weight: f64| Set { drag_weight, ..plain };
+    let (rounds, row_limit) = (|rounds: u32| Set { rounds, ..plain }, |row_limit: u32| Set { row_limit, ..plain });
+    for set in [tolerance(1e-12), tolerance(1e-3), rounds(1), rounds(1000), row_limit(1), row_limit(800), drag_weight(1.0), drag_weight(1e8)] {
+        holds("an end of a range", ask(&one, set, GROUND, lots).is_ok());
+    }
+    let beside = [tolerance(1e-12f64.next_down()), tolerance(1e-3f64.next_up()), drag_weight(1f64.next_down()), drag_weight(1e8f64.next_up())];
+    let whole = [rounds(0), rounds(1001), row_limit(0), row_limit(801)];
+    for set in beside.into_iter().chain(whole).chain([tolerance(f64::NAN), drag_weight(f64::NAN)]) {
+        holds("15", ask(&one, set, GROUND, lots) == Err(15));
+        holds("8 before 15", ask(&one, set, 1, lots) == Err(8));
+        holds("15 before 10", ask(&one, set, GROUND, 11) == Err(15));
+    }
+    let converged = |name: &str, set: Set| matches!(ask(&named(name), set, GROUND, lots), Ok(Answer::Solve { converged: true, .. }));
+    holds("off by 1e-9, finer", !converged("a fixed point off by 1e-9", tolerance(1e-9f64.next_down())));
+    holds("off by the next double, coarser", converged("a fixed point off by the next double", tolerance(1e-9f64.next_up())));
+    holds("800 rows over the limit", !converged("800 rows", row_limit(799)));
 }

@@ -1,24 +1,16 @@
 //! The sheet library and `report` on sheets with gears, beside the second program's rows (gear.rs) and tenon with these rows put in.
 //! What the cases must meet is entered at 0 by the functions that begin with `want`, and counted.
 
-use crate::answer::{Answer, Call, NAMES, bits, hex, words};
+use crate::answer::{Answer, BARE, Call, NAMES, bits, hex, words};
 use crate::compare::{Library, Tally, kept};
 use crate::cover::{Cover, PRIMS};
+use crate::edges::rounds;
 use crate::rng::Rng;
 use crate::sheet::*;
 use crate::trains::{self, ORDER, pose_of, worked};
 use crate::{generate, lists, whole, with_gears};
-use std::sync::atomic::Ordering;
 
 const ENDS: [&str; 3] = ["a", "b", "carrier"];
-
-/// How many rounds and second runs the copy with gears has taken in all.
-fn rounds() -> [u64; 2] {
-    ["lm::solve: round", "solve: tried again"].map(|counter| {
-        let at = tenon_gear::NAMES.iter().position(|name| *name == counter).unwrap();
-        tenon_gear::COVER[at].load(Ordering::Relaxed)
-    })
-}
 
 fn sign(d: f64) -> &'static str {
     match (d == 0.0, d.is_sign_negative()) {
@@ -182,7 +174,7 @@ fn rows(rng: &mut Rng, n: usize, library: &mut Library, cover: &mut Cover) -> bo
         put_in.case(put.len() == 1 && bits(put[0]) == bits(row), || format!("{} for {}", hex(put[0]), hex(row)));
         let sheet = Sheet { bodies: bodies.to_vec(), relations: vec![r] };
         let (scratch, _) = whole::scratch(&sheet);
-        let answer = library.ask(&sheet.bytes(), Call::Solve { drag: GROUND, scratch, poses: 36, frames: 36, errors: 1 });
+        let answer = library.ask(&sheet.bytes(), Call::Solve { drag: GROUND, set: None, scratch, poses: 36, frames: 36, errors: 1 });
         let Ok(Answer::Solve { errors, .. }) = answer else { panic!("a gear is refused") };
         reported.case(bits(errors[0]) == bits(row.abs()), || format!("{} for {}", hex(errors[0]), hex(row.abs())));
     }
@@ -210,10 +202,10 @@ fn calls(sheet: &Sheet, calls: Vec<Call>, library: &mut Library, cover: &mut Cov
     for call in calls {
         let answer = count(cover, sheet, call, || library.ask(&bytes, call));
         cover.lengths(sheet, call, &answer);
-        if let Call::Solve { drag, scratch, poses, frames, errors } = call
+        if let Call::Solve { drag, set, scratch, poses, frames, errors } = call
             && drag != GROUND
         {
-            let without = library.ask(&bytes, Call::Solve { drag: GROUND, scratch, poses, frames, errors });
+            let without = library.ask(&bytes, Call::Solve { drag: GROUND, set, scratch, poses, frames, errors });
             cover.add("solve with drag, another answer than without".into(), (answer.is_ok() && words(&without) != words(&answer)) as u64);
         }
     }
@@ -249,10 +241,10 @@ fn fields(library: &mut Library, cover: &mut Cover) {
 /// The library on gears alone and on N valid and N damaged sheets with gears; with a program, that one as `report` on some of them.
 pub fn run(seed: u64, n: usize, program: Option<&str>) -> bool {
     let (mut rng, mut cover) = (Rng(seed), Cover::default());
-    let mut library = Library::new("gears");
+    let mut library = Library::new("gears", &BARE);
     cover.want_gears();
     cover.want_geared();
-    cover.want_refused(&NAMES);
+    cover.want_refused(&BARE.map(|call| NAMES[call]));
     let mut good = rows(&mut rng, 8 * n, &mut library, &mut cover);
     let mut inputs = Vec::new();
     for i in 0..n {

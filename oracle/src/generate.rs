@@ -710,7 +710,7 @@ pub fn calls(rng: &mut Rng, sheet: Option<&Sheet>) -> Vec<Call> {
         Call::Judge { relation },
         Call::Reading { relation },
         Call::Snap { relation, motion: near(rng, 12) },
-        Call::Solve { drag, scratch: near(rng, solve), poses: near(rng, 12 * m), frames: near(rng, 12 * m), errors: near(rng, k) },
+        Call::Solve { drag, set: None, scratch: near(rng, solve), poses: near(rng, 12 * m), frames: near(rng, 12 * m), errors: near(rng, k) },
         Call::Dof { scratch: near(rng, dof), freedoms: near(rng, 29 * m) },
     ]
 }
@@ -726,7 +726,7 @@ pub fn good_calls(rng: &mut Rng, sheet: &Sheet) -> Vec<Call> {
     }
     let drag = if m == 0 { GROUND } else { drag };
     let mut more = |n: usize| n + rng.pick(&[0, 0, 1, 17]);
-    out.push(Call::Solve { drag, scratch: more(solve), poses: more(12 * m), frames: more(12 * m), errors: more(k) });
+    out.push(Call::Solve { drag, set: None, scratch: more(solve), poses: more(12 * m), frames: more(12 * m), errors: more(k) });
     out.push(Call::Dof { scratch: more(dof), freedoms: more(29 * m) });
     out
 }
@@ -737,7 +737,7 @@ pub fn calls_on_one() -> [Call; 5] {
         Call::Judge { relation: 0 },
         Call::Reading { relation: 0 },
         Call::Snap { relation: 0, motion: 12 },
-        Call::Solve { drag: GROUND, scratch: 300, poses: 12, frames: 12, errors: 1 },
+        Call::Solve { drag: GROUND, set: None, scratch: 300, poses: 12, frames: 12, errors: 1 },
         Call::Dof { scratch: 300, freedoms: 29 },
     ]
 }
@@ -752,7 +752,7 @@ pub fn exact_calls(sheet: &Sheet, drags: &[u16]) -> Vec<Call> {
         out.extend([Call::Judge { relation }, Call::Reading { relation }, Call::Snap { relation, motion: 12 }]);
     }
     let need = [for_solve, 12 * m, 12 * m, k];
-    let solve = |drag: u16, [scratch, poses, frames, errors]: [usize; 4]| Call::Solve { drag, scratch, poses, frames, errors };
+    let solve = |drag: u16, [scratch, poses, frames, errors]: [usize; 4]| Call::Solve { drag, set: None, scratch, poses, frames, errors };
     out.extend(drags.iter().map(|drag| solve(*drag, need)));
     for i in 0..4 {
         let mut short = need;

@@ -1,4 +1,4 @@
-//! The six calls of a sheet library over its C interface, include/sheet.h.
+//! The seven calls of a sheet library over its C interface, include/sheet.h.
 
 /// Declares them in a module, for a library whose calls begin with a prefix.
 macro_rules! library {
@@ -17,6 +17,25 @@ macro_rules! library {
                     sheet: *const u8,
                     sheet_len: usize,
                     drag: u16,
+                    scratch: *mut f64,
+                    scratch_len: usize,
+                    poses: *mut f64,
+                    poses_len: usize,
+                    frames: *mut f64,
+                    frames_len: usize,
+                    errors: *mut f64,
+                    errors_len: usize,
+                    converged: *mut u8,
+                ) -> u32;
+                #[link_name = concat!($prefix, "_solve_with")]
+                pub fn solve_with(
+                    sheet: *const u8,
+                    sheet_len: usize,
+                    drag: u16,
+                    tolerance: f64,
+                    rounds: u32,
+                    row_limit: u32,
+                    drag_weight: f64,
                     scratch: *mut f64,
                     scratch_len: usize,
                     poses: *mut f64,

@@ -5,6 +5,7 @@ use crate::arguments as args;
 use crate::cover::Cover;
 use crate::gears;
 use crate::generate;
+use crate::parameters;
 use crate::plain::{self, list, vec3};
 use crate::rng::Rng;
 use crate::scenes::{self, Case};
@@ -364,7 +365,7 @@ fn pose(rng: &mut Rng, b: &Body) -> [f64; 12] {
 }
 
 /// One sheet with calls: its length in bytes, its bytes as words, the number of calls, then each call:
-/// its number, relation or drag, four lengths, the count of answer words, the answer words.
+/// its number, relation or drag, four lengths, the four parameters where it has a set, the count of answer words, the answer words.
 fn sheet_words(bytes: &[u8], calls: &[Call]) -> Vec<u64> {
     let mut out = vec![bytes.len() as u64];
     out.extend(record_words(bytes));
@@ -374,11 +375,14 @@ fn sheet_words(bytes: &[u8], calls: &[Call]) -> Vec<u64> {
             Call::Judge { relation } => [0, relation as usize, 0, 0, 0, 0],
             Call::Reading { relation } => [1, relation as usize, 0, 0, 0, 0],
             Call::Snap { relation, motion } => [2, relation as usize, 0, motion, 0, 0],
-            Call::Solve { drag, scratch, poses, frames, errors } => [3, drag as usize, scratch, poses, frames, errors],
+            Call::Solve { drag, scratch, poses, frames, errors, .. } => [call.number(), drag as usize, scratch, poses, frames, errors],
             Call::Dof { scratch, freedoms } => [4, 0, scratch, freedoms, 0, 0],
         };
         let answer = words(&whole::answer(bytes, *call));
         out.extend(head.map(|n| n as u64));
+        if let Call::Solve { set: Some(set), .. } = call {
+            out.extend([bits(set.tolerance), set.rounds as u64, set.row_limit as u64, bits(set.drag_weight)]);
+        }
         out.push(answer.len() as u64);
         out.extend(answer);
     }
@@ -484,6 +488,15 @@ fn geared_sheets(dir: &str, rng: &mut Rng, scale: usize) {
     geared.write(dir, "sheets_geared");
 }
 
+/// Sheets solved with sets of parameters, each call kept for a kind of case that none before it is.
+fn sheets_with_sets(dir: &str) {
+    let mut list = List::new();
+    for (bytes, calls) in parameters::listed(15, 60) {
+        list.put_words(&sheet_words(&bytes, &calls));
+    }
+    list.write(dir, "sheets_parameters");
+}
+
 /// A scene that is lent and what writing it gives: m, k, the lengths of bytes, words, numbers and sheet, then bytes, words and numbers, the
 /// number, and for 0 the sheet.
 fn scene_words(case: &Case) -> Vec<u64> {
@@ -549,6 +562,7 @@ pub fn write(dir: &str, scale: usize) -> bool {
     gear_rows(dir, &mut Rng(9), scale);
     geared_sheets(dir, &mut Rng(10), scale);
     written_scenes(dir);
+    sheets_with_sets(dir);
     let count = |taken: &[bool]| taken.iter().filter(|t| **t).count();
     println!("branches of the Rust: {}, taken for single functions {}, for sheets {}", tenon::NAMES.len(), count(&by_functions), count(&taken()));
     for ((name, function), sheet) in tenon::NAMES.iter().zip(by_functions).zip(taken()) {

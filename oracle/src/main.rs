@@ -15,11 +15,14 @@ mod gears;
 mod generate;
 mod lists;
 mod opening;
+mod parameters;
 mod port;
 mod rng;
 mod scenes;
+mod sets;
 mod sheet;
 mod trains;
+mod trials;
 mod turns;
 mod whole;
 mod writing;
@@ -66,6 +69,7 @@ oracle limits FILE..          the same at the limits of bodies, relations and ro
 oracle run-report PROGRAM SEED N    the program report against the Rust
 oracle gears SEED N [PROGRAM] the sheet library, and the program report, on gears: 8N rows, N valid and N damaged sheets
 oracle opening                the number that the sheet library's opening gives against the oracle's own reader's, on sheets changed in any byte
+oracle parameters SEED N FILE..    `solve` of the sheet library with sets of parameters against the Rust, on N sheets and on those in these files
 oracle write SEED N FILE..    the sheet library's writing against the second writer: N scenes, fields changed, limits, the sheets in these files
 oracle lists DIR [SCALE]      the frozen lists (FORMATS.md); SCALE above 1 makes longer ones";
 
@@ -91,6 +95,7 @@ fn main() {
         ["gears", seed, n] => gears::run(number(seed) as u64, number(n), None),
         ["gears", seed, n, program] => gears::run(number(seed) as u64, number(n), Some(program)),
         ["opening"] => opening::run(),
+        ["parameters", seed, n, ref files @ ..] => parameters::run(number(seed) as u64, number(n), files),
         ["write", seed, n, ref files @ ..] => scenes::run(number(seed) as u64, number(n), files),
         ["bench"] => bench::run(),
         ["bench", ref files @ ..] => bench::sheets(files),
@@ -113,7 +118,7 @@ fn print_answers(file: &str, drag: u16) -> bool {
     for relation in 0..k {
         calls.extend([answer::Call::Judge { relation }, answer::Call::Reading { relation }, answer::Call::Snap { relation, motion: 12 }]);
     }
-    calls.push(answer::Call::Solve { drag, scratch: lots, poses: lots, frames: lots, errors: lots });
+    calls.push(answer::Call::Solve { drag, set: None, scratch: lots, poses: lots, frames: lots, errors: lots });
     calls.push(answer::Call::Dof { scratch: lots, freedoms: lots });
     for call in calls {
         print!("{}", answer::text(call, &whole::answer(&bytes, call)));

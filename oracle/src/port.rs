@@ -1,6 +1,6 @@
 //! The calls of the sheet library, `libsheet.a`, over its C interface.
 
-use crate::answer::{Answer, Call, bits};
+use crate::answer::{Answer, Call, Set, bits};
 
 library!(linked, "sheet");
 
@@ -16,15 +16,29 @@ pub fn opening(bytes: &[u8]) -> u32 {
     if number == 13 { 0 } else { number }
 }
 
+/// `solve` with a set or without. Of each output a length is lent.
+fn solve(bytes: &[u8], drag: u16, set: Option<Set>, scratch: &mut [f64], outputs: [(&mut Vec<f64>, usize); 3], flag: &mut u8) -> u32 {
+    let (sheet, len) = (bytes.as_ptr(), bytes.len());
+    let (s, n) = (scratch.as_mut_ptr(), scratch.len());
+    let [(p, pl), (f, fl), (e, el)] = outputs.map(|(memory, n)| (memory.as_mut_ptr(), n));
+    unsafe {
+        match set {
+            None => linked::solve(sheet, len, drag, s, n, p, pl, f, fl, e, el, flag),
+            Some(Set { tolerance: t, rounds: r, row_limit: l, drag_weight: w }) => {
+                linked::solve_with(sheet, len, drag, t, r, l, w, s, n, p, pl, f, fl, e, el, flag)
+            }
+        }
+    }
+}
+
 /// `solve` or `dof` with this scratch, for its time; the answer is dropped.
 pub fn run(bytes: &[u8], call: Call, scratch: &mut [f64]) {
     let (sheet, len) = (bytes.as_ptr(), bytes.len());
     let (s, n) = (scratch.as_mut_ptr(), scratch.len());
     match call {
-        Call::Solve { drag, poses, frames, errors, .. } => {
-            let (mut p, mut f, mut e, mut flag) = (vec![0.0; poses], vec![0.0; frames], vec![0.0; errors], 0u8);
-            let (p, f, e) = (p.as_mut_ptr(), f.as_mut_ptr(), e.as_mut_ptr());
-            let number = unsafe { linked::solve(sheet, len, drag, s, n, p, poses, f, frames, e, errors, &mut flag) };
+        Call::Solve { drag, set, poses, frames, errors, .. } => {
+            let [mut p, mut f, mut e] = [poses, frames, errors].map(|n| vec![0.0; n]);
+            let number = solve(bytes, drag, set, scratch, [(&mut p, poses), (&mut f, frames), (&mut e, errors)], &mut 0);
             assert_eq!(number, 0);
         }
         Call::Dof { freedoms, .. } => {
@@ -75,13 +89,10 @@ pub fn same(bytes: &[u8], call: Call, answer: &Result<Answer, u32>, scratch: &mu
             let want = if let Ok(Answer::Snap { motion }) = answer { motion } else { none };
             got == number && holds(&memory, want)
         }
-        Call::Solve { drag, scratch: s, poses, frames, errors } => {
+        Call::Solve { drag, set, scratch: s, poses, frames, errors } => {
             let before = scratch.clone();
-            let (mut p, mut f, mut e, mut flag) = (lent(poses), lent(frames), lent(errors), 77u8);
-            let got = unsafe {
-                let (p, f, e) = (p.as_mut_ptr(), f.as_mut_ptr(), e.as_mut_ptr());
-                linked::solve(sheet, len, drag, scratch.as_mut_ptr(), s, p, poses, f, frames, e, errors, &mut flag)
-            };
+            let ([mut p, mut f, mut e], mut flag) = ([poses, frames, errors].map(lent), 77u8);
+            let got = solve(bytes, drag, set, &mut scratch[..s], [(&mut p, poses), (&mut f, frames), (&mut e, errors)], &mut flag);
             got == number
                 && match answer {
                     Ok(Answer::Solve { poses, frames, errors, converged }) => {

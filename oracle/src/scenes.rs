@@ -13,7 +13,7 @@ pub const ENDS: [&str; 3] = ["a", "b", "the third end"];
 const SLICES: [&str; 3] = ["bytes", "words", "numbers"];
 pub const MINUS: u64 = 1 << 63;
 /// NaNs of both signs, quiet and not, with few and with many bits.
-const NANS: [u64; 6] = [0x7FF8000000000000, 0xFFF8000000000000, 0x7FF0000000000001, 0xFFF0000000000001, 0x7FFFFFFFFFFFFFFF, 0xFFF7FFFFFFFFFFFE];
+pub const NANS: [u64; 6] = [0x7FF8000000000000, 0xFFF8000000000000, 0x7FF0000000000001, 0xFFF0000000000001, 0x7FFFFFFFFFFFFFFF, 0xFFF7FFFFFFFFFFFE];
 
 /// A scene lent for a sheet of so many bytes, the number that it must give, and the kinds of cases that it is.
 pub struct Case<'a> {

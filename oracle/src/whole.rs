@@ -1,6 +1,6 @@
 //! Which copy of tenon answers: the one with gears for a sheet that has a gear, tenon itself for every other.
 
-use crate::answer::{Answer, Call};
+use crate::answer::{Answer, Call, Set};
 use crate::sheet::{self, Sheet};
 use crate::{plain, with_gears};
 
@@ -11,6 +11,11 @@ pub fn has_gear(bytes: &[u8]) -> bool {
 /// The answer of a call on any bytes, or the number it is refused with.
 pub fn answer(bytes: &[u8], call: Call) -> Result<Answer, u32> {
     if has_gear(bytes) { with_gears::answer(bytes, call) } else { plain::answer(bytes, call) }
+}
+
+/// What `solve` fills in on an accepted sheet if its first run goes by the one set and its second by the other.
+pub fn by_runs(sheet: &Sheet, drag: u16, sets: [Set; 2]) -> Answer {
+    if sheet.has_gear() { with_gears::by_runs(sheet, drag, sets) } else { plain::by_runs(sheet, drag, sets) }
 }
 
 /// What the program `report` prints for what it reads.
