@@ -13,7 +13,7 @@ use Rattle.numbers.specs.Differs.{Differs-by-at-most}
 use Rattle.relations.specs.Geometry.{Pose}
 use Rattle.relations.specs.Model.{Body, Rel, poseOfFrame}
 use Rattle.relations.specs.Rows.{ground}
-use Rattle.least_squares.specs.Lm.{Outcome, listOf}
+use Rattle.least_squares.specs.Lm.{listOf}
 use Rattle.scene.specs.Solve.{Scene, Solution, Parameters, inRange, names, named, unknowns, posesAt, startAt, slightTurn, runFrom, solveWith}
 use Rattle.closeness.specs.RowBound.{TEN-MILLION, smallPose, smallRel, exactLaw, unroundedError}
 

@@ -2,8 +2,8 @@
 -- list of its rows laid end to end. Every unknown is free, so Rust's `free` is all of them. `max_abs` is `maxAbs` of the crate numbers, and a sum its
 -- `sumFrom`. Definitions only; `rank` is left out.
 use Prim.Native.Nat.{ℕ, zero, suc, _+_, _-_, _*_, min, max}
-use mathlib.Core.Bool.{Bool, true, false, not, _&&_, _||_, cond}
-use mathlib.Core.List.{List, [], _∷_, _++_, map}
+use mathlib.Core.Bool.{Bool, true, false, _&&_, _||_, cond}
+use mathlib.Core.List.{List, [], _∷_, _++_}
 use mathlib.Core.Option.{Option, none, some}
 use lib.ListN.{length, getD, set}
 use lib.Dec.{eqb, ltb}

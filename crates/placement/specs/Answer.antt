@@ -1,9 +1,9 @@
 -- What `solve` leaves in the slices that it fills: P and the frames, 12 doubles a body, and an error for each relation. A longer slice keeps its rest. Document 01, "The
 -- sheet". Definitions only.
-use Prim.Native.Nat.{ℕ, _+_, _*_, _<_}
+use Prim.Native.Nat.{ℕ, _*_}
 use mathlib.Core.Path.{_≡_}
 use mathlib.Core.Bool.{Bool}
-use mathlib.Core.List.{List, [], _∷_, _++_, map}
+use mathlib.Core.List.{List, [], _∷_, _++_}
 use mathlib.Core.Option.{Option}
 use lib.ListN.{length, drop, take}
 use lib.Ieee.{Float}

@@ -1,6 +1,6 @@
 -- Trials and one round in memory: what each step is by the definitions, and what it leaves alone. By the laws of parts. Assumes nothing.
 use mathlib.Core.Path.{_≡_, refl, sym, ap, subst, _∙_}
-use mathlib.Core.Bool.{Bool, true, false, _&&_, _||_, cond}
+use mathlib.Core.Bool.{Bool, true, false, _&&_, cond}
 use mathlib.Core.List.{List, _++_}
 use mathlib.Core.Option.{Option, none, some}
 use Prim.Native.Nat.{ℕ, suc, _+_, _-_, _*_, _≤_, _<_}
@@ -71,9 +71,6 @@ pick-true b x y h = rw h
 
 pub pick-false : {A : Type 0} (b : Bool) (x y : A) → b ≡ false → elim b [ true ↦ x | false ↦ y ] ≡ y
 pick-false b x y h = rw h
-
-pub or-false : (a b : Bool) → a ≡ false → (a || b) ≡ b
-or-false a b h = rw h
 
 module _ (f : List Float → List Float) (winv : List Float) where
   step-worse : (jac : List Float) (rows : ℕ) (s : State) (o : Option (List Float)) → stepWith f winv jac rows s o .better ≡ false → stepWith f winv jac rows s o ≡ stiffer s

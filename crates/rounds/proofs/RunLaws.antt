@@ -22,7 +22,7 @@ use Rattle.rounds.specs.Rounds.{weightsIn, unknownsIn, rowsIn, stateIn, 
 use Rattle.rounds.specs.declared.parts.SolveParts.{SolveParts as PartsStruct}
 use Rattle.rounds.specs.declared.trial.Tried.{Tried as TriedStruct}
 use Rattle.rounds.specs.declared.rounds.RunEnd.{RunEnd as RunEndStruct}
-use Rattle.rounds.proofs.RoundLaws.{pick-true, pick-false, or-false}
+use Rattle.rounds.proofs.RoundLaws.{pick-true, pick-false}
 
 -- ---- rounds, by the definitions
 
@@ -126,6 +126,9 @@ going-end sc c p s t tol most cost mu e d i ok h g w =
     record { told = w ∙ sym (ap (λ (o : Outcome). o .converged) a); made = sym h ∙ sym (ap (λ (o : Outcome). o .rounds) a); unknowns = sym (ap (λ (o : Outcome). o .x) a); keeps = g .keeps }
 
 -- ---- a run, by the definitions
+
+or-false : (a b : Bool) → a ≡ false → (a || b) ≡ b
+or-false a b h = rw h
 
 module _ (f : List Float → List Float) (winv : List Float) (tol : Float) (most limit : ℕ) (x r : List Float) (e : r ≡ f x) where
   -- a run with the rows v

@@ -10,10 +10,9 @@ use native.Mathlib.Numerals.{add-one}
 use native.Mathlib.Decide.{decLt, ℕ-discrete}
 use borrow.Author.Tests.{eq-eqb, ne-eqb}
 use native.Mathlib.Nat.{not-suc-le-zero, le-of-suc-le-suc}
-use lib.ListN.{length, getD, set, take, drop, length-set, length-take, length-drop, length-append, List·getD-append, List·getD-eq-default}
-use lib.Seq.{take-add, take-all, drop-drop, drop-cons, drop-length, take-suc, take-suc-set, take-set-le, drop-set-lt, getD-append-add, getD-set-same, getD-set-other, ext-getD}
+use lib.ListN.{length, getD, set, take, drop, length-set, length-drop, length-append, List·getD-append, List·getD-eq-default}
+use lib.Seq.{take-add, take-all, drop-drop, drop-cons, drop-length, take-suc, take-suc-set, getD-append-add, getD-set-same, getD-set-other, ext-getD}
 use lib.Ieee.{Float, nan}
-use Rattle.vectors.specs.Vec.{Vec}
 use Rattle.relations.specs.Geometry.{Pose}
 use Rattle.relations.specs.Model.{Body, Rel}
 use Rattle.relations.specs.Rows as Rows
@@ -24,7 +23,7 @@ use Rattle.least_squares.specs.Lm.{listOf, inverseWeight}
 use Rattle.least_squares.specs.Memory.{part, Kept}
 use Rattle.records.specs.Record.{bodyAt, relAt}
 use Rattle.scene.specs.Scene.{sceneIn}
-use Rattle.scene.specs.Solve.{Scene, moves, layoutFrom, layout, unknownsIn, poseAt, posesFrom, posesAt, three, allRows, weightsFrom, weights, bodyWeights, dragFactor, halfSize}
+use Rattle.scene.specs.Solve.{moves, layoutFrom, layout, unknownsIn, posesFrom, posesAt, three, allRows, weightsFrom, weights, bodyWeights, dragFactor, halfSize}
 use Rattle.scene.specs.Scene.{firstUnknown, sceneOf, Laid, bodyPose, relRows, weightsOf, inverseAt, poseDoubles, posesDoubles, poseIn, posesIn, Put, PutNext, RowsAt}
 use Rattle.scene.specs.declared.scene.Scene.{Scene as SceneStruct}
 use Rattle.least_squares.proofs.MemoryLaws.{part-length, part-at, kept-refl, kept-set, kept-wider, kept-trans, kept-part-below, kept-at-below, kept-at-above}

@@ -1,6 +1,6 @@
 -- The scene as the code hands it on, and what the functions over the lent scratch promise. Document 01, "Recut for Rattle": a scene record passed by value, read in
 -- place from a sheet's bytes. s is the scratch at entry and t at exit. Definitions only.
-use Prim.Native.Nat.{ℕ, zero, suc, _+_, _-_, _*_, _≤_, _<_}
+use Prim.Native.Nat.{ℕ, _+_, _-_, _*_, _≤_, _<_}
 use mathlib.Core.Path.{_≡_}
 use mathlib.Core.Bool.{Bool, cond}
 use mathlib.Core.List.{List, [], _∷_, _++_, map}

@@ -1,21 +1,21 @@
 -- `solve` of solve.rs: unknowns, weights, poses, the retry, errors; document 02's parameters. Document 01, "The train of files", item 6, and "The words of demand 3".
 -- Definitions only.
-use Prim.Native.Nat.{ℕ, zero, suc, _+_, _-_, _*_, _%_}
+use Prim.Native.Nat.{ℕ, suc, _+_, _%_}
 use mathlib.Core.Bool.{Bool, true, false, not, _&&_, _||_, cond}
 use mathlib.Core.List.{List, [], _∷_, _++_, map}
 use mathlib.Core.Option.{Option, none, some}
-use lib.ListN.{length, getD, take}
+use lib.ListN.{getD}
 use lib.Dec.{eqb, leb}
 use lib.Ieee.{Float, nan, binary64, mul, lt, le, ofBits}
 use Rattle.numbers.specs.Ops.{doubles}
 use Rattle.numbers.specs.Double.{zero64, one64, fmax}
 use Rattle.numbers.specs.MaxAbs.{maxAbs}
 use Rattle.vectors.specs.Tol.{ASSEMBLY}
-use Rattle.vectors.specs.Vec.{Vec, zeroV, addV, subV}
+use Rattle.vectors.specs.Vec.{Vec, addV, subV}
 use Rattle.vectors.specs.Space.{Frame}
 use Rattle.vectors.specs.Math.{apply, mulM, exp, frameOf}
 use Rattle.relations.specs.Geometry.{Pose, frameOr}
-use Rattle.relations.specs.Model.{Body, End, Law, mate, flush, angle, insert, tangent, symmetry, joint, gear, Rel, poseOfFrame}
+use Rattle.relations.specs.Model.{Body, Law, mate, flush, angle, insert, tangent, symmetry, joint, gear, Rel, poseOfFrame}
 use Rattle.relations.specs.Rows.{residual, ground}
 use Rattle.least_squares.specs.Lm.{listOf, inverseWeight, Outcome, run}
 

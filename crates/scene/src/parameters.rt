@@ -13,7 +13,7 @@ pub struct Parameters {
     pub weight: f64,
 }
 
-// A call that chooses nothing.
+// What a call takes that chooses nothing.
 pub fn plain() -> Parameters
     ensures { λ r. ⌜ spec.parametersOf r ≡ solve.plain ⌝ }
 {

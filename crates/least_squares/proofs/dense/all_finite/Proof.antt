@@ -7,9 +7,6 @@ use borrow.Author.Needs.{needs}
 use Rattle.least_squares.specs.Lm.{allFinite}
 use Rattle.least_squares.specs.Memory.{part}
 use Rattle.least_squares.proofs.DenseLaws.{finite-next}
-use Rattle.least_squares.proofs.DenseLaws.{finite-next}
-use Rattle.least_squares.proofs.DenseLaws.{finite-next}
-use Rattle.least_squares.proofs.DenseLaws.{finite-next}
 use Rattle.least_squares.proofs.dense.all_finite.Statement.{statement}
 use Rattle.least_squares.proofs.dense.all_finite.Tie as tie
 

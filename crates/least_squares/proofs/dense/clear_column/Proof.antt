@@ -3,7 +3,6 @@ use Prim.Native.Nat.{_-_}
 use native.Mathlib.Omega.{arith}
 use borrow.Author.Needs.{needs}
 use Rattle.least_squares.proofs.DenseLaws.{pivot-within, column-none, column-some}
-use Rattle.least_squares.proofs.DenseLaws.{pivot-within, column-none, column-some}
 use Rattle.least_squares.proofs.dense.clear_column.Statement.{statement}
 use Rattle.least_squares.proofs.dense.clear_column.Tie as tie
 

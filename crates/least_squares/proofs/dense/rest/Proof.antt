@@ -5,9 +5,6 @@ use native.Mathlib.Omega.{arith}
 use Rattle.least_squares.specs.Lm.{restTo}
 use Rattle.least_squares.specs.Dense.{systemAt}
 use Rattle.least_squares.proofs.DenseLaws.{row-fits, rest-first, rest-next}
-use Rattle.least_squares.proofs.DenseLaws.{row-fits, rest-first, rest-next}
-use Rattle.least_squares.proofs.DenseLaws.{row-fits, rest-first, rest-next}
-use Rattle.least_squares.proofs.DenseLaws.{row-fits, rest-first, rest-next}
 use Rattle.least_squares.proofs.dense.rest.Statement.{statement}
 use Rattle.least_squares.proofs.dense.rest.Tie as tie
 

@@ -1,7 +1,6 @@
 -- `scene::scene::put_weights`: a body without unknowns has no weights (`no-weights`), one with unknowns has the six that `put_six` writes (`some-weights`). Assumes nothing.
 use mathlib.Core.List.{map}
 use mathlib.Core.Path.{_≡_, refl, sym, ap, _∙_}
-use Prim.Native.Nat.{_-_}
 use native.Mathlib.Omega.{arith}
 use lib.ListN.{length}
 use borrow.Author.Needs.{needs}
