@@ -7,7 +7,7 @@
 # second writer (src/writing.rs); the number that opening a sheet gives, on sheets with any byte changed, with the oracle's own reader
 # (src/sheet.rs). Every comparison prints how much it compared. Ends with 0 if nothing differs and every kind of case that is wanted was met.
 # Where tenon's sources or rustc are missing it says that nothing was compared, and ends with 0, or with 1 if CI is set.
-# Takes 110 to 180 s on two cores, by what else they do.
+# Takes 100 to 180 s on two cores, by what else they do.
 set -u
 cd "$(dirname "$0")" || exit 2
 failed=0
