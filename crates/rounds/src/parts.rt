@@ -1,4 +1,4 @@
-// Where the parts of the lent scratch stand, each from where the last ended. `specs/SolveParts.antt` says what each is for.
+// Where the parts of the lent scratch stand, each from where the last ended. `specs/Parts.antt` says what each is for.
 
 ghost use mathlib.Core.Path.{_≡_};
 ghost use Prim.Native.Nat.{_≤_};
