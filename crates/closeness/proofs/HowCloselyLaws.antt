@@ -24,16 +24,16 @@ use Rattle.relations.specs.Geometry.{Pose}
 use Rattle.relations.specs.Model.{Body, Rel, poseOfFrame}
 use Rattle.relations.specs.Rows.{ground}
 use Rattle.least_squares.specs.Lm.{State, Tried, Outcome, listOf, norm2, judged, stepWith, trial, trials, oneRound, rounds, run, inverseWeight}
-use Rattle.scene.specs.Solve.{Scene, named, moves, layoutFrom, unknowns, poseAt, posesFrom, posesAt, rowsAt, allRows, rowsOf, Parameters, FINEST, COARSEST, fromTo, inRange, weights, startAt, slightTurn, runFrom, better, solved, solveWith}
+use Rattle.scene.specs.Solve.{Scene, named, moves, layoutFrom, unknowns, poseAt, posesFrom, posesAt, rowsAt, allRows, rowsOf, Parameters, FINEST, COARSEST, fromTo, inRange, weights, startAt, slightTurn, runFrom, better, solved, framesFrom, solveWith}
 use Rattle.closeness.proofs.RowBoundLaws.{error-bound}
-use Rattle.closeness.specs.HowClosely.{allWithin, Closeness, roundsOf, RoundsEnd}
+use Rattle.closeness.specs.HowClosely.{allWithin, HowClosely, AllSmall, Closeness, roundsOf, RoundsEnd}
 
 -- what holds on each side of a test holds, for each of the two ways to write the test
-picked : {A : Type 0} (P : A → Type 0) (b : Bool) (x y : A) → (b ≡ true → P x) → (b ≡ false → P y) → P (cond b x y)
+pub picked : {A : Type 0} (P : A → Type 0) (b : Bool) (x y : A) → (b ≡ true → P x) → (b ≡ false → P y) → P (cond b x y)
 picked P true x y h k = h refl
 picked P false x y h k = k refl
 
-either : {A : Type 0} (P : A → Type 0) (b : Bool) (x y : A) → (b ≡ true → P x) → (b ≡ false → P y) → P (elim b as (λ (t : Bool). A) [ true ↦ x | false ↦ y ])
+pub either : {A : Type 0} (P : A → Type 0) (b : Bool) (x y : A) → (b ≡ true → P x) → (b ≡ false → P y) → P (elim b as (λ (t : Bool). A) [ true ↦ x | false ↦ y ])
 either P true x y h k = h refl
 either P false x y h k = k refl
 
@@ -98,7 +98,7 @@ module _ (f : List Float → List Float) (winv : List Float) where
       let next = trials-own jac a rows k (t .state) g in
       either (λ (t : Tried). Own (t .state)) (t .better) _ _ (λ e. g) (λ e. next)
 
-  round-own : (s : State) → Own s → Own (oneRound f winv s .state)
+  pub round-own : (s : State) → Own s → Own (oneRound f winv s .state)
   unfolding oneRound
   round-own s h = trials-own _ _ _ 12 s h
 
@@ -119,7 +119,7 @@ module _ (f : List Float → List Float) (winv : List Float) (tol : Float) where
       let next = rounds-told k (suc done) (t .state) g in
       either Told (le (maxAbs (t .state .r)) tol) _ _ (λ e. sym e ∙ told (t .state) g) (λ e. either Told (t .better) _ _ (λ b. next) (λ b. sym e ∙ told (t .state) g))
 
-  none-within : (r : List Float) → le zero64 tol ≡ true → (eqb (length r) 0 || le (maxAbs r) tol) ≡ true → true ≡ le (maxAbs r) tol
+  pub none-within : (r : List Float) → le zero64 tol ≡ true → (eqb (length r) 0 || le (maxAbs r) tol) ≡ true → true ≡ le (maxAbs r) tol
   none-within [] z e = unfold maxAbs in sym z
   none-within (a ∷ r) z e = sym (rw eqb·suc-zero at e)
 
@@ -355,13 +355,21 @@ getD-map-in f [] j d e h = absurd (not-suc-le-zero h)
 getD-map-in f (a ∷ l) zero d e h = refl
 getD-map-in f (a ∷ l) (suc j) d e h = getD-map-in f l j d e (le-of-suc-le-suc h)
 
+-- an answer for any unknowns, whose flag tells of its errors
+pub answer-closely : (s : Scene) (tol : Float) (x : List Float) (flag : Bool) → AllSmall s → flag ≡ allWithin tol (map (λ rel. maxAbs (rowsAt (posesAt s x) rel)) (s .rels))
+    → HowClosely s tol
+    (record { poses = posesAt s x; frames = framesFrom (posesAt s x) (s .bodies); errors = map (λ rel. maxAbs (rowsAt (posesAt s x) rel)) (s .rels); converged = flag })
+answer-closely s tol x flag small told =
+    let poses = posesAt s x in
+    record {
+      converged = told;
+      still = λ i d h e. let w = still-pose s x i d h e in (w ∙ sym (still-pose s (listOf startAt (unknowns s)) i d h e), w);
+      closely = λ j d h y near. rw (getD-map-in (λ rel. maxAbs (rowsAt poses rel)) (s .rels) j d nan h) (error-bound (getD (s .rels) j d) poses y (small j d h) near);
+    }
+
 pub how-closely : Closeness
 unfolding solveWith
 how-closely s p drag range small =
-    let poses = posesAt s (solved s p drag .x) in
+    let o = solved s p drag in
     let t = range-tolerance p range in
-    record {
-      converged = solved-converged s p drag t ∙ within-all (p .tolerance) t poses (s .rels);
-      still = λ i d h e. let w = still-pose s (solved s p drag .x) i d h e in (w ∙ sym (still-pose s (listOf startAt (unknowns s)) i d h e), w);
-      closely = λ j d h x near. rw (getD-map-in (λ rel. maxAbs (rowsAt poses rel)) (s .rels) j d nan h) (error-bound (getD (s .rels) j d) poses x (small j d h) near);
-    }
+    answer-closely s (p .tolerance) (o .x) (o .converged) small (solved-converged s p drag t ∙ within-all (p .tolerance) t (posesAt s (o .x)) (s .rels))
