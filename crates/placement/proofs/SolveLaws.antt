@@ -29,8 +29,8 @@ use Rattle.relations.specs.declared.rows.Rows.{Rows as RowsStruct}
 use Rattle.scene.specs.declared.scene.Scene.{Scene as SceneStruct}
 use Rattle.least_squares.proofs.MemoryLaws.{take-same, taken-part, kept-refl, kept-part-below, kept-part-above}
 use Rattle.least_squares.proofs.TableLaws.{length-listOf}
-use Rattle.scene.proofs.SceneLaws.{put-one, put-then, rel-small, poses-there, length-poses, length-layout, length-bodies}
-use Rattle.placement.specs.Answer.{frameDoubles, framesDoubles, Worst, Ended, Filled}
+use Rattle.scene.proofs.SceneLaws.{put-one, put-then, put-front, rel-small, poses-there, length-poses, length-layout, length-bodies}
+use Rattle.placement.specs.Answer.{frameDoubles, framesDoubles, Worst, Better, Ended, Shown, Filled}
 use Rattle.rounds.specs.Parts.{Arranged}
 use Rattle.rounds.specs.Rounds.{weightsIn, unknownsIn, firstIn, Ran}
 use Rattle.rounds.specs.declared.parts.SolveParts.{SolveParts as PartsStruct}
@@ -170,58 +170,47 @@ again-is sc c p q s t u v e a d y r =
       size = r .keeps .size ∙ y .kept .size ∙ d .kept .size;
     }
 
-better-converged : (sc : Scene) (first retry : Outcome) → retry .converged ≡ true → better sc first retry ≡ retry
-unfolding better
-better-converged sc first retry h = rw h
+pub better-converged : (sc : Scene) (c : SceneStruct) (p : PartsStruct) (s : List Float) (converged : Bool) → converged ≡ true → Better sc c p s s converged true
+better-converged sc c p s converged h = record { told = rw h; size = refl; below = refl }
 
-better-smaller : (sc : Scene) (first retry : Outcome) (a b : Float) (t : Bool) → retry .converged ≡ false → a ≡ maxAbs (rowsOf sc (retry .x)) → b ≡ maxAbs (rowsOf sc (first .x)) → lt a b ≡ t
-    → better sc first retry ≡ cond t retry first
-unfolding better
-better-smaller sc first retry a b t h e f g = rw (h, ← e, ← f, g)
+pub better-smaller : (sc : Scene) (c : SceneStruct) (p : PartsStruct) (s t u : List Float) (converged : Bool) (now before : Float) → Arranged c p (length s) → converged ≡ false
+    → Worst sc c p s t (p .x) now → Worst sc c p t u (p .first) before → Better sc c p s u converged (lt now before)
+better-smaller sc c p s t u converged now before a h m n =
+    let e : before ≡ maxAbs (rowsOf sc (firstIn c p s)) = n .told ∙ ap (λ (x : List Float). maxAbs (rowsOf sc x)) (worst-part sc c p s t (p .x) now (p .first) (c .n) (omega arith) m) in
+    record { told = rw (h, m .told, e); size = n .size ∙ m .size; below = n .below ∙ m .below }
 
-module _ (sc : Scene) (c : SceneStruct) (p : PartsStruct) (q : Parameters) (s v : List Float) (ok : Bool) (first : Outcome) (a : Again sc c p q s v ok) where
-  pub retry-converged : ok ≡ true → Ended c p s v (better sc first (retryOf sc c p q s)) true
-  retry-converged h =
-      let k : retryOf sc c p q s .converged ≡ true = sym (a .told) ∙ h in
-      let b = better-converged sc first (retryOf sc c p q s) k in
-      record { told = sym k ∙ ap (λ (o : Outcome). o .converged) (sym b); unknowns = a .unknowns-are ∙ ap (λ (o : Outcome). o .x) (sym b); size = a .size }
+module _ (sc : Scene) (c : SceneStruct) (p : PartsStruct) (q : Parameters) (s v w : List Float) (ok kept : Bool) (first : Outcome) (at : Arranged c p (length s)) (a : Again sc c p q s v ok)
+    (b : Better sc c p v w ok kept) (e : first .x ≡ unknownsIn c p s) where
+  abbrev again : Outcome
+  again = retryOf sc c p q s
 
-  module _ (w z : List Float) (now before : Float) (f : Arranged c p (length s)) (h : ok ≡ false) (e : first .x ≡ unknownsIn c p s) (m : Worst sc c p v w (p .x) now)
-      (n : Worst sc c p w z (p .first) before) where
-    same-first : part z (p .first) (c .n) ≡ first .x
-    same-first =
-        worst-part sc c p w z (p .first) before (p .first) (c .n) (omega arith) n ∙ worst-part sc c p v w (p .x) now (p .first) (c .n) (omega arith) m
-        ∙ a .first
-        ∙ sym e
+  better-part : (o k : ℕ) → o + k ≤ p .ahead → part w o k ≡ part v o k
+  better-part o k h = taken-part v w (p .ahead) o k (b .size) (b .below) h
 
-    kept : (t : Bool) → lt now before ≡ t → better sc first (retryOf sc c p q s) ≡ cond t (retryOf sc c p q s) first
-    kept t g =
-        better-smaller sc first (retryOf sc c p q s) now before t (sym (a .told) ∙ h) (m .told ∙ ap (λ (x : List Float). maxAbs (rowsOf sc x)) (a .unknowns-are))
-        (n .told
-        ∙ ap (λ (x : List Float). maxAbs (rowsOf sc x)) (worst-part sc c p v w (p .x) now (p .first) (c .n) (omega arith) m ∙ a .first ∙ sym e))
-        g
+  chosen-retry : (t : Bool) → kept ≡ t → better sc first again ≡ cond t again first
+  unfolding better
+  chosen-retry t h =
+      let k : (again .converged || lt (maxAbs (rowsOf sc (again .x))) (maxAbs (rowsOf sc (first .x)))) ≡ t
+      = (λ z. sym (a .told) z || lt (maxAbs (rowsOf sc (sym (a .unknowns-are) z))) (maxAbs (rowsOf sc ((e ∙ sym (a .first)) z)))) ∙ sym (b .told) ∙ h in
+      ap (λ (d : Bool). cond d again first) k
 
-    pub retry-smaller : lt now before ≡ true → Ended c p s z (better sc first (retryOf sc c p q s)) false
-    retry-smaller g =
-        let b = kept true g in
-        record {
-          told = sym h ∙ a .told ∙ ap (λ (o : Outcome). o .converged) (sym b);
-          unknowns =
-              worst-part sc c p w z (p .first) before (p .x) (c .n) (omega arith) n
-              ∙ worst-part sc c p v w (p .x) now (p .x) (c .n) (omega arith) m
-              ∙ a .unknowns-are
-              ∙ ap (λ (o : Outcome). o .x) (sym b);
-          size = n .size ∙ m .size ∙ a .size;
-        }
+  pub retry-kept : kept ≡ true → Ended c p s w (better sc first again) ok
+  retry-kept h =
+      let y = chosen-retry true h in
+      record {
+        told = a .told ∙ ap (λ (o : Outcome). o .converged) (sym y);
+        unknowns = better-part (p .x) (c .n) (omega arith) ∙ a .unknowns-are ∙ ap (λ (o : Outcome). o .x) (sym y);
+        size = b .size ∙ a .size;
+      }
 
-    pub retry-larger : (y : List Float) → first .converged ≡ false → lt now before ≡ false → Copied z y (p .first) (p .x) (c .n) → Ended c p s y (better sc first (retryOf sc c p q s)) false
-    retry-larger y u g d =
-        let b = kept false g in
-        record {
-          told = sym u ∙ ap (λ (o : Outcome). o .converged) (sym b);
-          unknowns = d .copy ∙ same-first ∙ ap (λ (o : Outcome). o .x) (sym b);
-          size = d .kept .size ∙ n .size ∙ m .size ∙ a .size;
-        }
+  pub retry-left : (u : List Float) → kept ≡ false → first .converged ≡ false → Copied w u (p .first) (p .x) (c .n) → Ended c p s u (better sc first again) false
+  retry-left u h f d =
+      let y = chosen-retry false h in
+      record {
+        told = sym f ∙ ap (λ (o : Outcome). o .converged) (sym y);
+        unknowns = d .copy ∙ better-part (p .first) (c .n) (omega arith) ∙ a .first ∙ sym e ∙ ap (λ (o : Outcome). o .x) (sym y);
+        size = d .kept .size ∙ b .size ∙ a .size;
+      }
 
 -- ---- both runs
 
@@ -286,25 +275,30 @@ module _ (sc : Scene) (c : SceneStruct) (p : PartsStruct) (q : Parameters) (drag
       = (λ z. better sc (firstOf sc q drag) (run (rowsOf sc) (b .weights-are z) (q .tolerance) (q .rounds) (q .rowLimit) (listOf slightTurn (k z)))) ∙ sym (solved-twice sc q drag (sym (b .told) ∙ h) (λ y. e (k ∙ y))) in
       record { told = y .told ∙ ap (λ (o : Outcome). o .converged) o; unknowns = y .unknowns ∙ ap (λ (o : Outcome). o .x) o; size = y .size ∙ b .size }
 
--- ---- what `solve` fills in
+-- ---- what is filled in
 
-pub filled-is : (sheet : List ℕ) (c : SceneStruct) (p : PartsStruct) (q : Parameters) (drag : Option ℕ) (s t u poses poses' frames frames' errors errors' : List Float) (ok : Bool)
-    → Ended c p s t (solved (sceneOf sheet c) q drag) ok → Put t u (p .poses) (12 * c .m) (posesDoubles (posesAt (sceneOf sheet c) (part t (p .x) (c .n))))
-    → poses' ≡ part u (p .poses) (12 * c .m) ++ drop (12 * c .m) poses
+pub shown-is : (sheet : List ℕ) (c : SceneStruct) (p : PartsStruct) (t u poses poses' frames frames' errors errors' : List Float)
+    → Put t u (p .poses) (12 * c .m) (posesDoubles (posesAt (sceneOf sheet c) (unknownsIn c p t)))
+    → Put poses poses' 0 (12 * c .m) (part u (p .poses) (12 * c .m))
     → frames' ≡ framesDoubles (framesFrom (posesIn u (p .poses) (c .m)) (sceneOf sheet c .bodies)) ++ drop (12 * c .m) frames
     → errors' ≡ map (λ (rel : Rel). maxAbs (rowsAt (posesIn u (p .poses) (c .m)) rel)) (sceneOf sheet c .rels) ++ drop (c .k) errors
-    → Filled (sceneOf sheet c) q drag (c .m) (c .k) poses poses' frames frames' errors errors' ok
-unfolding solveWith
-filled-is sheet c p q drag s t u poses poses' frames frames' errors errors' ok a y d f e =
+    → Shown (sceneOf sheet c) (c .m) (c .k) (unknownsIn c p t) poses poses' frames frames' errors errors'
+shown-is sheet c p t u poses poses' frames frames' errors errors' y d f e =
     let sc = sceneOf sheet c in
-    let there : List (Pose Float) = posesAt sc (solved sc q drag .x) in
-    let h : part u (p .poses) (12 * c .m) ≡ posesDoubles there = y .holds ∙ ap (λ (x : List Float). posesDoubles (posesAt sc x)) (a .unknowns) in
+    let there : List (Pose Float) = posesAt sc (unknownsIn c p t) in
     let l : length there ≡ c .m
-    = length-poses (solved sc q drag .x) (sc .bodies) (layout sc) (length-layout (sc .rels) 0 0 (sc .bodies)) ∙ length-bodies sheet c in
-    let z : posesIn u (p .poses) (c .m) ≡ there = poses-there u (p .poses) (12 * c .m) there h (ap (λ (w : ℕ). 12 * w) l) (c .m) l in
+    = length-poses (unknownsIn c p t) (sc .bodies) (layout sc) (length-layout (sc .rels) 0 0 (sc .bodies)) ∙ length-bodies sheet c in
+    let z : posesIn u (p .poses) (c .m) ≡ there = poses-there u (p .poses) (12 * c .m) there (y .holds) (ap (λ (w : ℕ). 12 * w) l) (c .m) l in
     record {
-      poses-are = d ∙ ap (λ (w : List Float). w ++ drop (12 * c .m) poses) h;
+      poses-are = put-front poses poses' (12 * c .m) _ d ∙ ap (λ (w : List Float). w ++ drop (12 * c .m) poses) (y .holds);
       frames-are = f ∙ ap (λ (w : List (Pose Float)). framesDoubles (framesFrom w (sc .bodies)) ++ drop (12 * c .m) frames) z;
       errors-are = e ∙ ap (λ (w : List (Pose Float)). map (λ (rel : Rel). maxAbs (rowsAt w rel)) (sc .rels) ++ drop (c .k) errors) z;
-      converged = a .told;
     }
+
+pub filled-is : (sc : Scene) (c : SceneStruct) (p : PartsStruct) (q : Parameters) (drag : Option ℕ) (s t poses poses' frames frames' errors errors' : List Float) (ok : Bool)
+    → Ended c p s t (solved sc q drag) ok → Shown sc (c .m) (c .k) (unknownsIn c p t) poses poses' frames frames' errors errors'
+    → Filled sc q drag (c .m) (c .k) poses poses' frames frames' errors errors' ok
+unfolding solveWith
+filled-is sc c p q drag s t poses poses' frames frames' errors errors' ok a y =
+    let w : Shown sc (c .m) (c .k) (solved sc q drag .x) poses poses' frames frames' errors errors' = subst (λ (x : List Float). Shown sc (c .m) (c .k) x poses poses' frames frames' errors errors') (a .unknowns) y in
+    record { poses-are = w .poses-are; frames-are = w .frames-are; errors-are = w .errors-are; converged = a .told }

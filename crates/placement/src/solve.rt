@@ -37,7 +37,7 @@ use vectors::math::frame_of;
 use vectors::space::Frame;
 
 // The unknowns at first: all 0.
-fn put_start(s: &mut [f64], x: usize, n: usize)
+pub fn put_start(s: &mut [f64], x: usize, n: usize)
     requires { ⌜ x + n ≤ length (now s) ⌝ }
     ensures { λ _. ⌜ Put (now (s .entry)) (now (s .exit)) x n (lm.listOf definitions.startAt n) ⌝ }
 {
@@ -63,7 +63,7 @@ fn slight_turn(i: usize) -> f64
 }
 
 // The unknowns of the retry.
-fn put_turn(s: &mut [f64], x: usize, n: usize)
+pub fn put_turn(s: &mut [f64], x: usize, n: usize)
     requires { ⌜ x + n ≤ length (now s) ⌝ }
     ensures { λ _. ⌜ Put (now (s .entry)) (now (s .exit)) x n (lm.listOf definitions.slightTurn n) ⌝ }
 {
@@ -83,7 +83,21 @@ fn worst(sheet: &[u8], scene: Scene, s: &mut [f64], p: SolveParts, x: usize) -> 
     largest(s, p.ahead, scene.rows)
 }
 
-// The retry, the first run having ended unconverged at the unknowns at `x`. Whether it converged; it is kept then, or if its largest row is smaller.
+// Whether the retry at `x` is to be kept: it converged, or its largest row is smaller than that of the first run's unknowns at `first`.
+pub fn better(sheet: &[u8], scene: Scene, s: &mut [f64], p: SolveParts, converged: bool) -> bool
+    requires { ⌜ Laid (now sheet) scene ⌝ }
+    requires { ⌜ Arranged scene p (length (now s)) ⌝ }
+    ensures { λ r. ⌜ spec.Better (sceneOf (now (sheet .entry)) scene) scene p (now (s .entry)) (now (s .exit)) converged r ⌝ }
+{
+    if converged {
+        return true;
+    }
+    let now = worst(sheet, scene, s, p, p.x);
+    let before = worst(sheet, scene, s, p, p.first);
+    now < before
+}
+
+// The retry, the first run having ended unconverged at the unknowns at `x`. Whether it converged; where it is not kept, the first run's unknowns come back.
 fn retry(sheet: &[u8], scene: Scene, s: &mut [f64], p: SolveParts, q: Parameters) -> bool
     requires { ⌜ Laid (now sheet) scene ⌝ }
     requires { ⌜ Arranged scene p (length (now s)) ⌝ }
@@ -93,13 +107,9 @@ fn retry(sheet: &[u8], scene: Scene, s: &mut [f64], p: SolveParts, q: Parameters
     copy(s, p.x, p.first, scene.n);
     put_turn(s, p.x, scene.n);
     let again = run(sheet, scene, s, p, q);
-    if again.converged {
-        return true;
-    }
-    let now = worst(sheet, scene, s, p, p.x);
-    let before = worst(sheet, scene, s, p, p.first);
-    if now < before {
-        return false;
+    let kept = better(sheet, scene, s, p, again.converged);
+    if kept {
+        return again.converged;
     }
     copy(s, p.first, p.x, scene.n);
     false
@@ -132,14 +142,14 @@ fn solved(
     retry(sheet, scene, s, p, q)
 }
 
-// The first k doubles of d, from the k of s from o on.
-fn copy_out(s: &[f64], o: usize, d: &mut [f64], k: usize)
+// The k doubles of s from o on copied to d, from `at` on.
+pub fn copy_over(s: &[f64], o: usize, d: &mut [f64], at: usize, k: usize)
     requires { ⌜ o + k ≤ length (now s) ⌝ }
-    requires { ⌜ k ≤ length (now d) ⌝ }
-    ensures { λ _. ⌜ now (d .exit) ≡ part (now (s .entry)) o k ++ drop k (now (d .entry)) ⌝ }
+    requires { ⌜ at + k ≤ length (now d) ⌝ }
+    ensures { λ _. ⌜ Put (now (d .entry)) (now (d .exit)) at k (part (now (s .entry)) o k) ⌝ }
 {
     for i in 0..k {
-        d[i] = s[o + i];
+        d[at + i] = s[o + i];
     }
 }
 
@@ -187,6 +197,29 @@ fn put_errors(sheet: &[u8], scene: Scene, s: &[f64], p: usize, errors: &mut [f64
     }
 }
 
+// The answer for the unknowns at `x`: 12 doubles a body to `poses` and to `frames`, an error for each relation to `errors`.
+pub fn put_answer(
+    sheet: &[u8],
+    scene: Scene,
+    s: &mut [f64],
+    p: SolveParts,
+    poses: &mut [f64],
+    frames: &mut [f64],
+    errors: &mut [f64],
+)
+    requires { ⌜ Laid (now sheet) scene ⌝ }
+    requires { ⌜ Arranged scene p (length (now s)) ⌝ }
+    requires { ⌜ 12 * scene .m ≤ length (now poses) ⌝ }
+    requires { ⌜ 12 * scene .m ≤ length (now frames) ⌝ }
+    requires { ⌜ scene .k ≤ length (now errors) ⌝ }
+    ensures { λ _. ⌜ spec.Shown (sceneOf (now (sheet .entry)) scene) (scene .m) (scene .k) (rounds_spec.unknownsIn scene p (now (s .entry))) (now (poses .entry)) (now (poses .exit)) (now (frames .entry)) (now (frames .exit)) (now (errors .entry)) (now (errors .exit)) ⌝ }
+{
+    poses_at(sheet, scene, s, p.x, p.poses);
+    copy_over(s, p.poses, poses, 0, 12 * scene.m);
+    put_frames(sheet, scene, s, p.poses, frames);
+    put_errors(sheet, scene, s, p.poses, errors);
+}
+
 // `solve`: 12 doubles a body to `poses` and to `frames`, an error for each relation to `errors`. Whether it converged. What is left in s is open: it is scratch.
 pub fn solve(
     sheet: &[u8],
@@ -208,9 +241,6 @@ pub fn solve(
 {
     let p = solve_parts(scene);
     let converged = solved(sheet, scene, s, p, q, drag);
-    poses_at(sheet, scene, s, p.x, p.poses);
-    copy_out(s, p.poses, poses, 12 * scene.m);
-    put_frames(sheet, scene, s, p.poses, frames);
-    put_errors(sheet, scene, s, p.poses, errors);
+    put_answer(sheet, scene, s, p, poses, frames, errors);
     converged
 }

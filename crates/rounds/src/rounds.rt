@@ -48,7 +48,14 @@ fn trials(sheet: &[u8], scene: Scene, s: &mut [f64], p: SolveParts, cost: f64, m
 }
 
 // The slopes, the matrix, and at most 12 trials. The filling of slopes is lent the scratch from the unknowns on, the forming of the matrix from the slopes on.
-fn one_round(sheet: &[u8], scene: Scene, s: &mut [f64], p: SolveParts, cost: f64, mu: f64) -> Tried
+pub fn one_round(
+    sheet: &[u8],
+    scene: Scene,
+    s: &mut [f64],
+    p: SolveParts,
+    cost: f64,
+    mu: f64,
+) -> Tried
     requires { ⌜ Laid (now sheet) scene ⌝ }
     requires { ⌜ Arranged scene p (length (now s)) ⌝ }
     requires { ⌜ (scene .rows ≤ 800) × (scene .n ≤ 384) ⌝ }
@@ -62,7 +69,7 @@ fn one_round(sheet: &[u8], scene: Scene, s: &mut [f64], p: SolveParts, cost: f64
 }
 
 // Whether the rows at `rows` are all within the tolerance.
-fn within(s: &[f64], scene: Scene, p: SolveParts, tolerance: f64) -> bool
+pub fn within(s: &[f64], scene: Scene, p: SolveParts, tolerance: f64) -> bool
     requires { ⌜ Arranged scene p (length (now s)) ⌝ }
     ensures { λ r. ⌜ r ≡ spec.withinIn scene p (now (s .entry)) tolerance ⌝ }
 {

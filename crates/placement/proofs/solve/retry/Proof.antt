@@ -1,11 +1,11 @@
--- `placement::solve::retry`: the first run's unknowns are set aside and a second run starts from a slight turn. It is kept where it converged, or where its largest row is
--- the smaller; else the unknowns set aside come back. What the second run leaves is one fact (`again`), and each of the three ends follows from it. Assumes nothing.
+-- `placement::solve::retry`: the first run's unknowns are set aside and a second run starts from a slight turn. Where it is not to be kept
+-- (`better`), the unknowns set aside come back. What the second run leaves is one fact (`again`), and each of the two ends follows from it. Assumes nothing.
 use mathlib.Core.Path.{_∙_}
 use native.Mathlib.Omega.{arith}
 use borrow.Author.Needs.{needs}
 use Rattle.scene.specs.Scene.{sceneOf, parametersOf}
 use Rattle.rounds.proofs.RoundLaws.{arranged-same}
-use Rattle.placement.proofs.SolveLaws.{Again, again-is, retry-converged, retry-smaller, retry-larger}
+use Rattle.placement.proofs.SolveLaws.{Again, again-is, retry-kept, retry-left}
 use Rattle.placement.proofs.solve.retry.Statement.{statement}
 use Rattle.placement.proofs.solve.retry.Tie as tie
 
@@ -33,64 +33,43 @@ again c =
     let g = o .args in
     again-is (sceneOf (g .sheet .now) (g .scene)) (g .scene) (g .p) (parametersOf (g .q)) (g .s .now) _ _ _ _ (o .pre .1 .0) (aside .copy .ensures) (turned .put-turn .ensures) (c .run .ensures)
 
+better-requires : tie.Need-better-requires
+better-requires c κs =
+    let ran = c .before .before .before in
+    let o = ran .before .before .before .before .before .before .before .before .before .before .before .before in
+    (o .pre .0, arranged-same (again ran .size) (o .pre .1 .0))
+
 same-length : tie.Need-same-length
 same-length c = search needs
 
 returns : tie.Need-returns
-returns c = λ first h e. retry-converged _ _ _ _ _ _ _ first (again (c .before .before .before)) (c .if1 .taken)
-
-worst-requires : tie.Need-worst-requires
-worst-requires c κs =
-    let ran = c .before .before .before .before in
+returns c =
+    let choice = c .before .before .before in
+    let ran = choice .before .before .before .before in
     let o = ran .before .before .before .before .before .before .before .before .before .before .before .before in
-    let a = o .pre .1 .0 in
-    (o .pre .0, (arranged-same (again ran .size) a, omega arith))
+    λ first h e.
+    retry-kept _ _ _ _ _ _ _ _ _ first (o .pre .1 .0) (again ran) (choice .better .ensures) e (c .if1 .taken)
 
-worst-requires-2 : tie.Need-worst-requires-2
-worst-requires-2 c κs =
-    let now = c .before .before .before in
-    let ran = now .before .before .before .before .before in
+copy-requires-2 : tie.Need-copy-requires-2
+copy-requires-2 c κs =
+    let choice = c .before .before .before .before in
+    let ran = choice .before .before .before .before in
     let o = ran .before .before .before .before .before .before .before .before .before .before .before .before in
-    let a = o .pre .1 .0 in
-    (o .pre .0, (arranged-same (now .worst .ensures .size ∙ again ran .size) a, omega arith))
+    let a = arranged-same (choice .better .ensures .size ∙ again ran .size) (o .pre .1 .0) in
+    (omega (arith, a .first), omega (arith, a .first, a .x, a .slopes, a .matrix, a .weights, a .damped, a .right, a .rows, a .next, a .ahead, a .behind, a .poses))
 
 same-length-2 : tie.Need-same-length-2
 same-length-2 c = search needs
 
 returns-2 : tie.Need-returns-2
 returns-2 c =
-    let before = c .before .before .before in
-    let now = before .before .before .before .before in
-    let failed = now .before .before in
-    let ran = failed .before .before .before in
-    let o = ran .before .before .before .before .before .before .before .before .before .before .before .before in
-    λ first h e.
-    retry-smaller _ _ _ _ _ _ _ first (again ran) _ _ _ _ (o .pre .1 .0) (failed .if1 .left) e (now .worst .ensures) (before .worst2 .ensures) (c .if2 .taken)
-
-copy-requires-2 : tie.Need-copy-requires-2
-copy-requires-2 c κs =
-    let before = c .before .before .before .before in
-    let now = before .before .before .before .before in
-    let ran = now .before .before .before .before .before in
-    let o = ran .before .before .before .before .before .before .before .before .before .before .before .before in
-    let a = arranged-same (before .worst2 .ensures .size ∙ now .worst .ensures .size ∙ again ran .size) (o .pre .1 .0) in
-    (omega (arith, a .first), omega (arith, a .first, a .x, a .slopes, a .matrix, a .weights, a .damped, a .right, a .rows, a .next, a .ahead, a .behind, a .poses))
-
-same-length-3 : tie.Need-same-length-3
-same-length-3 c = search needs
-
-returns-3 : tie.Need-returns-3
-returns-3 c =
     let back = c .before .before in
     let larger = back .before .before in
-    let before = larger .before .before .before in
-    let now = before .before .before .before .before in
-    let failed = now .before .before in
-    let ran = failed .before .before .before in
+    let choice = larger .before .before .before in
+    let ran = choice .before .before .before .before in
     let o = ran .before .before .before .before .before .before .before .before .before .before .before .before in
     λ first h e.
-    retry-larger _ _ _ _ _ _ _ first (again ran) _ _ _ _ (o .pre .1 .0) (failed .if1 .left) e (now .worst .ensures) (before .worst2 .ensures) _ h (larger .if2 .left)
-    (back .copy2 .ensures)
+    retry-left _ _ _ _ _ _ _ _ _ first (o .pre .1 .0) (again ran) (choice .better .ensures) e _ (larger .if1 .left) h (back .copy2 .ensures)
 
 pub retry-spec : {M : Type 1} → statement M
 retry-spec =
@@ -99,12 +78,9 @@ retry-spec =
     copy-requires
     put-turn-requires
     run-requires
+    better-requires
     same-length
     returns
-    worst-requires
-    worst-requires-2
-    same-length-2
-    returns-2
     copy-requires-2
-    same-length-3
-    returns-3)
+    same-length-2
+    returns-2)

@@ -1,13 +1,10 @@
--- `placement::solve::solve`: the scratch is arranged, both runs are made, and the poses of the unknowns that they leave are worked at the end of the scratch, from where poses,
--- frames and errors are filled in. That those poses stand within the scratch is one fact (`room`). Assumes nothing.
-use Prim.Native.Nat.{_+_, _*_, _≤_}
-use native.Mathlib.Omega.{arith}
+-- `placement::solve::solve`: the scratch is arranged, both runs are made, and the answer is that for the unknowns that they leave (`filled-is`). Assumes nothing.
 use borrow.Author.Needs.{needs}
 use Rattle.relations.specs.Model.{bodyNumber}
 use lib.ListN.{length}
-use Rattle.scene.specs.Scene.{parametersOf}
+use Rattle.scene.specs.Scene.{sceneOf, parametersOf}
 use Rattle.rounds.specs.Parts.{Arranged}
-use Rattle.rounds.proofs.RoundLaws.{arranged-as}
+use Rattle.rounds.proofs.RoundLaws.{arranged-as, arranged-same}
 use Rattle.placement.proofs.SolveLaws.{filled-is}
 use Rattle.placement.proofs.solve.solve.Statement.{statement}
 use Rattle.placement.proofs.solve.solve.Tie as tie
@@ -27,47 +24,12 @@ solved-requires c κs =
     let o = arranged .before .before .before .before .before .before in
     (o .pre .0, (placed arranged, (o .pre .1 .0 .1, o .pre .1 .0 .2)))
 
-poses-at-requires : tie.Need-poses-at-requires
-poses-at-requires c κs =
-    let ran = c .before .before .before in
+put-answer-requires : tie.Need-put-answer-requires
+put-answer-requires c κs =
+    let ran = c .before .before .before .before .before .before in
     let arranged = ran .before .before in
     let o = arranged .before .before .before .before .before .before in
-    let a = placed arranged in
-    let z = ran .solved .ensures .size in
-    (o .pre .0, (omega arith, omega arith))
-
--- the poses stand within the scratch
-room : (c : tie.After-poses-at)
-    → let arranged = c .before .before .before .before .before .before in
-    let g = arranged .before .before .before .before .before .before .args in
-    arranged .solve-parts .result .poses + 12 * g .scene .m ≤ length (c .poses-at .last .1 .1 .0)
-room c =
-    let ran = c .before .before .before .before in
-    let a = placed (ran .before .before) in
-    let z = ran .solved .ensures .size in
-    let y = c .poses-at .ensures .kept .size in
-    omega (arith, a .poses, z, y)
-
-mul-copy-out : tie.Need-mul-copy-out
-mul-copy-out c = search needs
-
-copy-out-requires : tie.Need-copy-out-requires
-copy-out-requires c κs =
-    let posed = c .before .before .before .before .before in
-    let o = posed .before .before .before .before .before .before .before .before .before .before .before .before in
-    (room posed, o .pre .1 .1 .1 .0)
-
-put-frames-requires : tie.Need-put-frames-requires
-put-frames-requires c κs =
-    let posed = c .before .before .before .before .before .before .before .before .before .before in
-    let o = posed .before .before .before .before .before .before .before .before .before .before .before .before in
-    (o .pre .0, (room posed, o .pre .1 .1 .1 .1 .0))
-
-put-errors-requires : tie.Need-put-errors-requires
-put-errors-requires c κs =
-    let posed = c .before .before .before .before .before .before .before .before .before .before .before .before .before .before .before in
-    let o = posed .before .before .before .before .before .before .before .before .before .before .before .before in
-    (o .pre .0, (room posed, o .pre .1 .1 .1 .1 .1))
+    (o .pre .0, (arranged-same (ran .solved .ensures .size) (placed arranged), o .pre .1 .1 .1))
 
 same-length : tie.Need-same-length
 same-length c = search needs
@@ -83,29 +45,10 @@ same-length-4 c = search needs
 
 returns : tie.Need-returns
 returns c =
-    let errors = c .before .before in
-    let frames = errors .before .before .before .before .before in
-    let copied = frames .before .before .before .before .before in
-    let posed = copied .before .before .before .before .before .before in
-    let ran = posed .before .before .before .before in
+    let answer = c .before .before .before .before .before .before .before .before in
+    let ran = answer .before .before .before .before .before .before .before in
     let g = ran .before .before .before .before .before .before .before .before .args in
-    filled-is (g .sheet .now) (g .scene) _ (parametersOf (g .q)) (bodyNumber (g .drag)) _ _ _ _ _ _ _ _ _ _ (ran .solved .ensures) (posed .poses-at .ensures) (copied .copy-out .ensures)
-    (frames .put-frames .ensures)
-    (errors .put-errors .ensures)
+    filled-is (sceneOf (g .sheet .now) (g .scene)) (g .scene) _ (parametersOf (g .q)) (bodyNumber (g .drag)) _ _ _ _ _ _ _ _ _ (ran .solved .ensures) (answer .put-answer .ensures)
 
 pub solve-spec : {M : Type 1} → statement M
-solve-spec =
-    tie.close
-    (tie.spec
-    solve-parts-requires
-    solved-requires
-    poses-at-requires
-    mul-copy-out
-    copy-out-requires
-    put-frames-requires
-    put-errors-requires
-    same-length
-    same-length-2
-    same-length-3
-    same-length-4
-    returns)
+solve-spec = tie.close (tie.spec solve-parts-requires solved-requires put-answer-requires same-length same-length-2 same-length-3 same-length-4 returns)

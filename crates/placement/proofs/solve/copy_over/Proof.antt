@@ -1,19 +1,18 @@
--- `placement::solve::copy_out` meets its contract. The invariant: the doubles passed stand at the front of d. The measure is the doubles to come. Assumes nothing.
-use mathlib.Core.Path.{_≡_}
-use Prim.Native.Nat.{_-_, _≤_}
+-- `placement::solve::copy_over` meets its contract. The invariant: the doubles passed stand in d from `at` on. The measure is the doubles to come. Assumes nothing.
+use mathlib.Core.Path.{_≡_, refl}
+use Prim.Native.Nat.{_+_, _-_, _≤_}
 use native.Mathlib.Omega.{arith}
 use Rattle.least_squares.specs.Memory.{part}
 use Rattle.scene.specs.Scene.{Put}
 use Rattle.placement.proofs.SolveLaws.{put-none, put-entry, part-more}
-use Rattle.scene.proofs.SceneLaws.{put-front}
-use Rattle.placement.proofs.solve.copy_out.Statement.{statement}
-use Rattle.placement.proofs.solve.copy_out.Tie as tie
+use Rattle.placement.proofs.solve.copy_over.Statement.{statement}
+use Rattle.placement.proofs.solve.copy_over.Tie as tie
 
 abbrev Inv-loop : tie.InvT-loop
-Inv-loop s o d₀ k i₀ d i = (i ≤ k) × Put d₀ d 0 i (part s o i)
+Inv-loop s o d₀ at k i₀ d i = (i ≤ k) × Put d₀ d at i (part s o i)
 
 abbrev μ-loop : tie.MeasureT-loop
-μ-loop s o d₀ k i₀ d i = k - i
+μ-loop s o d₀ at k i₀ d i = k - i
 
 loop-holds : tie.Need-loop-holds Inv-loop μ-loop
 loop-holds c = (omega arith, put-none _ _)
@@ -26,6 +25,9 @@ mul-d c = omega arith
 
 shared-slice-read-d : tie.Need-shared-slice-read-d Inv-loop μ-loop
 shared-slice-read-d c = omega arith
+
+add-d-2 : tie.Need-add-d-2 Inv-loop μ-loop
+add-d-2 c = let z = c .before .before .loop .inv .1 .kept .size in omega arith
 
 mul-d-2 : tie.Need-mul-d-2 Inv-loop μ-loop
 mul-d-2 c = let z = c .before .before .loop .inv .1 .kept .size in omega arith
@@ -45,16 +47,16 @@ loop-again c =
     let g = c .before .before .before .args in
     let y = at .inv .1 in
     let z = y .kept .size in
-    (omega arith, put-entry _ (at .d) 0 (at .i) (at .i) _ _ _ (omega arith) (omega arith) (part-more (g .s .now) (g .o) (at .i) _ (omega arith)) y)
+    (omega arith, put-entry _ (at .d) (g .at) (at .i) (g .at + at .i) _ _ _ refl (omega arith) (part-more (g .s .now) (g .o) (at .i) _ (omega arith)) y)
 
 same-length : tie.Need-same-length Inv-loop μ-loop
 same-length c = c .before .loop .inv .1 .kept .size
 
 returns : tie.Need-returns Inv-loop μ-loop
-returns c = let e : c .before .loop .i ≡ c .before .before .args .k = omega arith in put-front _ _ _ _ (rw e at (c .before .loop .inv .1))
+returns c = let e : c .before .loop .i ≡ c .before .before .args .k = omega arith in rw e at (c .before .loop .inv .1)
 
-pub copy-out-spec : {M : Type 1} → statement M
-copy-out-spec =
+pub copy-over-spec : {M : Type 1} → statement M
+copy-over-spec =
     tie.close
     (tie.spec
     Inv-loop
@@ -63,6 +65,7 @@ copy-out-spec =
     add-d
     mul-d
     shared-slice-read-d
+    add-d-2
     mul-d-2
     slice-write-d
     add-i
