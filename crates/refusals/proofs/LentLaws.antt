@@ -1,17 +1,18 @@
 -- The tests of what a call takes: each by the numbers that the code compares. Assumes nothing.
-use mathlib.Core.Path.{_≡_, refl}
-use mathlib.Core.Bool.{Bool, true, false, _&&_}
+use mathlib.Core.Path.{_≡_, refl, sym, _∙_}
+use mathlib.Core.Bool.{Bool, true, false}
 use mathlib.Core.List.{List}
-use Prim.Native.Nat.{ℕ, _*_, _<_, _≤_}
+use Prim.Native.Nat.{ℕ, zero, suc, _*_, _<_, _≤_}
 use lib.Dec.{leb}
 use lib.Ieee.{lt, le, eq, ofBits}
 use borrow.Author.Tests.{lt-ltb, le-ltb, le-leb, lt-leb, eq-eqb, ne-eqb}
 use Rattle.records.specs.Numbers.{GROUND}
 use Rattle.format.specs.Format.{bodiesOf, relationsOf}
-use Rattle.format.specs.Faults.{orElse, unless, sheetFault}
+use Rattle.format.specs.Faults.{orElse, sheetFault}
 use Rattle.scene.specs.Solve.{Parameters, plain, inRange}
-use Rattle.refusals.specs.Refusals.{dragFault, parametersFault, solveScratch, solveWithFault, solveFault, dofScratch, dofFault}
-use Rattle.format.proofs.RefusalLaws.{first, later}
+use Rattle.refusals.specs.Refusals.{dragFault, parametersFault, solveWithFault, solveFault, dofScratch, dofFault}
+use Rattle.refusals.specs.Parts.{callFault, lentFault, solveLong, solveLentFault}
+use Rattle.format.proofs.RefusalLaws.{first, later, none-of}
 
 -- ---- the drag
 
@@ -26,36 +27,40 @@ drag-missing s drag m ne e l = rw (← e, ne-eqb drag GROUND ne, le-ltb drag m l
 
 -- ---- the order of the tests
 
--- 10, then 9
-unfoldable pub lentFault : Bool → ℕ → ℕ → ℕ
-lentFault long need scratch = orElse (unless long 10) (unless (leb need scratch) 9)
-
-unfoldable pub solveLong : List ℕ → ℕ → ℕ → ℕ → Bool
-solveLong s poses frames errors = leb (12 * bodiesOf s) poses && (leb (12 * bodiesOf s) frames && leb (relationsOf s) errors)
-
 unfoldable pub dofLong : List ℕ → ℕ → Bool
 dofLong s freedoms = leb (29 * bodiesOf s) freedoms
 
-pub solve-first : (s : List ℕ) (p : Parameters) (drag scratch poses frames errors f : ℕ) → f ≡ sheetFault s → (f ≡ 0 → ⊥) → f ≡ solveWithFault s p drag scratch poses frames errors
-unfolding solveWithFault
-solve-first s p drag scratch poses frames errors f e ne = first _ (sheetFault s) _ f refl e ne
+-- three tests in a row, the first two taken together
+or-else-assoc : (a b c : ℕ) → orElse a (orElse b c) ≡ orElse (orElse a b) c
+or-else-assoc zero b c = refl
+or-else-assoc (suc a) b c = refl
 
-pub solve-drag : (s : List ℕ) (p : Parameters) (drag scratch poses frames errors f d : ℕ) → f ≡ sheetFault s → f ≡ 0 → d ≡ dragFault s drag → (d ≡ 0 → ⊥)
-    → d ≡ solveWithFault s p drag scratch poses frames errors
-unfolding solveWithFault
-solve-drag s p drag scratch poses frames errors f d e z de ne = later _ (sheetFault s) _ f d refl e z (first _ (dragFault s drag) _ d refl de ne)
+-- the sheet, 8, 15, then whatever follows
+pub call-then : (s : List ℕ) (p : Parameters) (drag w : ℕ) → orElse (sheetFault s) (orElse (dragFault s drag) (orElse (parametersFault p) w)) ≡ orElse (callFault s p drag) w
+unfolding callFault
+call-then s p drag w = rw (or-else-assoc (dragFault s drag) (parametersFault p) w, or-else-assoc (sheetFault s) (orElse (dragFault s drag) (parametersFault p)) w)
 
-pub solve-chosen : (s : List ℕ) (p : Parameters) (drag scratch poses frames errors f d q : ℕ) → f ≡ sheetFault s → f ≡ 0 → d ≡ dragFault s drag → d ≡ 0 → q ≡ parametersFault p → (q ≡ 0 → ⊥)
-    → q ≡ solveWithFault s p drag scratch poses frames errors
-unfolding solveWithFault
-solve-chosen s p drag scratch poses frames errors f d q e z de dz qe ne =
-    later _ (sheetFault s) _ f q refl e z (later _ (dragFault s drag) _ d q refl de dz (first _ (parametersFault p) _ q refl qe ne))
+pub call-first : (s : List ℕ) (p : Parameters) (drag f : ℕ) → f ≡ sheetFault s → (f ≡ 0 → ⊥) → f ≡ callFault s p drag
+unfolding callFault
+call-first s p drag f e ne = first _ (sheetFault s) _ f refl e ne
 
-pub solve-lent : (s : List ℕ) (p : Parameters) (drag scratch poses frames errors f d q w : ℕ) → f ≡ sheetFault s → f ≡ 0 → d ≡ dragFault s drag → d ≡ 0 → q ≡ parametersFault p → q ≡ 0
-    → w ≡ lentFault (solveLong s poses frames errors) (solveScratch s) scratch → w ≡ solveWithFault s p drag scratch poses frames errors
+pub call-drag : (s : List ℕ) (p : Parameters) (drag f d : ℕ) → f ≡ sheetFault s → f ≡ 0 → d ≡ dragFault s drag → (d ≡ 0 → ⊥) → d ≡ callFault s p drag
+unfolding callFault
+call-drag s p drag f d e z de ne = later _ (sheetFault s) _ f d refl e z (first _ (dragFault s drag) _ d refl de ne)
+
+pub call-chosen : (s : List ℕ) (p : Parameters) (drag f d q : ℕ) → f ≡ sheetFault s → f ≡ 0 → d ≡ dragFault s drag → d ≡ 0 → q ≡ parametersFault p → q ≡ callFault s p drag
+unfolding callFault
+call-chosen s p drag f d q e z de dz qe = later _ (sheetFault s) _ f q refl e z (later _ (dragFault s drag) _ d q refl de dz qe)
+
+-- a call that none of these refuses has a sheet that passes
+pub call-sheet : (s : List ℕ) (p : Parameters) (drag f : ℕ) → f ≡ callFault s p drag → f ≡ 0 → sheetFault s ≡ 0
+unfolding callFault
+call-sheet s p drag f e z = none-of (sheetFault s) _ (sym e ∙ z) .0
+
+pub solve-parts : (s : List ℕ) (p : Parameters) (drag scratch poses frames errors : ℕ)
+    → solveWithFault s p drag scratch poses frames errors ≡ orElse (callFault s p drag) (solveLentFault s scratch poses frames errors)
 unfolding solveWithFault lentFault solveLong
-solve-lent s p drag scratch poses frames errors f d q w e z de dz qe qz h =
-    later _ (sheetFault s) _ f w refl e z (later _ (dragFault s drag) _ d w refl de dz (later _ (parametersFault p) _ q w refl qe qz h))
+solve-parts s p drag scratch poses frames errors = call-then s p drag _
 
 plain-range : inRange plain ≡ true
 unfolding inRange le lt eq ofBits
@@ -63,7 +68,7 @@ plain-range = refl
 
 -- a call that chooses nothing is refused by 8, 10 and 9 alone, once its sheet passes
 pub plain-fault : (s : List ℕ) (drag scratch poses frames errors : ℕ)
-    → solveFault s drag scratch poses frames errors ≡ orElse (sheetFault s) (orElse (dragFault s drag) (lentFault (solveLong s poses frames errors) (solveScratch s) scratch))
+    → solveFault s drag scratch poses frames errors ≡ orElse (sheetFault s) (orElse (dragFault s drag) (solveLentFault s scratch poses frames errors))
 unfolding solveWithFault lentFault solveLong
 plain-fault s drag scratch poses frames errors = rw plain-range
 

@@ -1,4 +1,4 @@
--- The number of a refusal is at most 15: by the tests, each of which gives 0 or its own number. Assumes nothing.
+-- The number of a refusal of `solve` and `dof` is at most 15: by the tests, each of which gives 0 or its own number. Assumes nothing.
 use mathlib.Core.Bool.{Bool, true, false, _&&_, _||_, cond}
 use mathlib.Core.List.{List}
 use Prim.Native.Nat.{ℕ, zero, suc, _*_, _≤_}

@@ -1,2 +1,3 @@
 pub mod SceneAt
 pub mod Refusals
+pub mod Parts

@@ -1,4 +1,4 @@
-// How many doubles of scratch `solve` and `dof` need, for a sheet that passes tests 1 to 7 and 14.
+// How many doubles of scratch `solve` and `dof` need and a running state has, for a sheet that passes tests 1 to 7 and 14.
 
 use records::record::u16_at;
 use scene::scene::Scene;
@@ -50,4 +50,14 @@ pub fn dof_scratch(s: &[u8]) -> usize
     let n = c.n;
     let m = c.m;
     figure(rows, n, m, n * n)
+}
+
+pub fn state_length(s: &[u8]) -> usize
+    requires { ⌜ faults.sheetFault (now s) ≡ 0 ⌝ }
+    ensures { λ r. ⌜ r ≡ spec.stateLength (now (s .entry)) ⌝ }
+{
+    let c = scene_in(s);
+    let rows = c.rows;
+    let n = c.n;
+    1 + 2 * n + rows
 }

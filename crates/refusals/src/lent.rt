@@ -1,4 +1,4 @@
-// Tests 8, 15, 10 and 9: what a call of `solve` or `dof` takes. specs/Refusals.antt has the definitions.
+// Tests 8, 15, 10 and 9: what a call of `solve` or `dof` takes. specs/Refusals.antt has the definitions, specs/Parts.antt those of their parts.
 
 use crate::figures::dof_scratch;
 use crate::figures::solve_scratch;
@@ -9,6 +9,7 @@ ghost use mathlib.Core.Path.{_≡_};
 ghost use Rattle.scene.specs.Scene.{parametersOf};
 ghost use Rattle.scene.specs.Solve as solve;
 ghost use Rattle.format.specs.Faults as faults;
+ghost use Rattle.refusals.specs.Parts as parts;
 ghost use Rattle.refusals.specs.Refusals as spec;
 
 // Test 8: the drag is a body's number, or 65535 for none.
@@ -58,17 +59,9 @@ fn parameters_fault(q: Parameters) -> u32
     0
 }
 
-// The tests of `solve` in their order, by what is chosen and the lengths of what is lent.
-pub fn solve_fault(
-    sheet: &[u8],
-    q: Parameters,
-    drag: u16,
-    scratch: usize,
-    poses: usize,
-    frames: usize,
-    errors: usize,
-) -> u32
-    ensures { λ r. ⌜ r ≡ spec.solveWithFault (now (sheet .entry)) (parametersOf q) drag scratch poses frames errors ⌝ }
+// What is tested before anything lent: the sheet, 8, 15.
+pub fn call_fault(sheet: &[u8], q: Parameters, drag: u16) -> u32
+    ensures { λ r. ⌜ r ≡ parts.callFault (now (sheet .entry)) (parametersOf q) drag ⌝ }
 {
     let fault = sheet_fault(sheet);
     if fault != 0 {
@@ -78,10 +71,14 @@ pub fn solve_fault(
     if dragged != 0 {
         return dragged;
     }
-    let chosen = parameters_fault(q);
-    if chosen != 0 {
-        return chosen;
-    }
+    parameters_fault(q)
+}
+
+// Tests 10 and 9 of `solve`, by the lengths of what is lent.
+pub fn lent_fault(sheet: &[u8], scratch: usize, poses: usize, frames: usize, errors: usize) -> u32
+    requires { ⌜ faults.sheetFault (now sheet) ≡ 0 ⌝ }
+    ensures { λ r. ⌜ r ≡ parts.solveLentFault (now (sheet .entry)) scratch poses frames errors ⌝ }
+{
     let m = u16_at(sheet, 2) as usize;
     let k = u16_at(sheet, 4) as usize;
     if poses < 12 * m {
@@ -97,6 +94,25 @@ pub fn solve_fault(
         return 9;
     }
     0
+}
+
+// The tests of `solve` in their order, by what is chosen and the lengths of what is lent.
+pub fn solve_fault(
+    sheet: &[u8],
+    q: Parameters,
+    drag: u16,
+    scratch: usize,
+    poses: usize,
+    frames: usize,
+    errors: usize,
+) -> u32
+    ensures { λ r. ⌜ r ≡ spec.solveWithFault (now (sheet .entry)) (parametersOf q) drag scratch poses frames errors ⌝ }
+{
+    let fault = call_fault(sheet, q, drag);
+    if fault != 0 {
+        return fault;
+    }
+    lent_fault(sheet, scratch, poses, frames, errors)
 }
 
 // The tests of `dof` in their order, by the lengths of what is lent.

@@ -1,3 +1,4 @@
-// Which number `solve` and `dof` give for what is lent to them, and how much scratch they need.
+// Which number `solve`, solving by rounds and `dof` give for what is lent to them, and how much scratch they need.
 pub mod figures;
 pub mod lent;
+pub mod portions;
