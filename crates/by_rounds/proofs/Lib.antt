@@ -1,0 +1,3 @@
+pub mod EndLaws
+pub mod GoLaws
+pub mod HeldLaws

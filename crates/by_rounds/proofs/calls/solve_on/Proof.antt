@@ -1,0 +1,82 @@
+-- `by_rounds::calls::solve_on`: the scratch is arranged, what the caller holds is taken to it, and what the rounds come to is put to the caller's memory. Assumes nothing.
+use mathlib.Core.Path.{ap, _∙_}
+use Rattle.scene.specs.Scene.{sceneOf, parametersOf}
+use Rattle.relations.specs.Model.{bodyNumber}
+use lib.ListN.{length}
+use Rattle.rounds.specs.Parts.{Arranged}
+use Rattle.rounds.proofs.RoundLaws.{arranged-as, arranged-same}
+use Rattle.portions.specs.Portions.{on}
+use Rattle.by_rounds.proofs.HeldLaws.{left-as}
+use borrow.Author.Needs.{needs}
+use Rattle.by_rounds.proofs.calls.solve_on.Statement.{statement}
+use Rattle.by_rounds.proofs.calls.solve_on.Tie as tie
+
+solve-parts-requires : tie.Need-solve-parts-requires
+solve-parts-requires c κs = search needs
+
+-- where the parts of the scratch stand
+placed : (c : tie.After-solve-parts) → let g = c .before .before .before .before .before .before .before .args in Arranged (g .scene) (c .solve-parts .result) (length (g .s .now))
+placed c =
+    let o = c .before .before .before .before .before .before .before in
+    arranged-as (o .args .scene) (c .solve-parts .result) (length (o .args .s .now)) (c .solve-parts .ensures) (o .pre .1 .1 .1 .0)
+
+take-held-requires : tie.Need-take-held-requires
+take-held-requires c κs =
+    let arranged = c .before .before in
+    let o = arranged .before .before .before .before .before .before .before in
+    (placed arranged, (o .pre .1 .0, o .pre .1 .1 .1 .1 .0))
+
+on-requires : tie.Need-on-requires
+on-requires c κs =
+    let taken = c .before .before .before in
+    let arranged = taken .before .before .before in
+    let o = arranged .before .before .before .before .before .before .before in
+    (o .pre .0, (arranged-same (taken .take-held .ensures .size) (placed arranged), (o .pre .1 .0 .1, o .pre .1 .1 .0)))
+
+put-reached-requires : tie.Need-put-reached-requires
+put-reached-requires c κs =
+    let went = c .before .before .before .before .before .before .before in
+    let taken = went .before .before .before .before in
+    let arranged = taken .before .before .before in
+    let o = arranged .before .before .before .before .before .before .before in
+    (o .pre .0, (arranged-same (went .on .ensures .size ∙ taken .take-held .ensures .size) (placed arranged), (o .pre .1 .0, o .pre .1 .1 .1 .1)))
+
+same-length : tie.Need-same-length
+same-length c = search needs
+
+same-length-2 : tie.Need-same-length-2
+same-length-2 c = search needs
+
+same-length-3 : tie.Need-same-length-3
+same-length-3 c = search needs
+
+same-length-4 : tie.Need-same-length-4
+same-length-4 c = search needs
+
+same-length-5 : tie.Need-same-length-5
+same-length-5 c = search needs
+
+returns : tie.Need-returns
+returns c =
+    let last = c .before .before .before .before .before .before .before .before .before .before in
+    let went = last .before .before .before .before .before .before .before .before in
+    let taken = went .before .before .before .before in
+    let g = taken .before .before .before .before .before .before .before .before .before .before .args in
+    let sc = sceneOf (g .sheet .now) (g .scene) in
+    left-as sc (parametersOf (g .q)) (g .scene) _ _ _ _ _ _ _ _ _ _ _ (last .put-reached .ensures)
+    (went .on .ensures .running ∙ ap (on sc (parametersOf (g .q)) (bodyNumber (g .drag)) (g .portion)) (taken .take-held .ensures .running))
+
+pub solve-on-spec : {M : Type 1} → statement M
+solve-on-spec =
+    tie.close
+    (tie.spec
+    solve-parts-requires
+    take-held-requires
+    on-requires
+    put-reached-requires
+    same-length
+    same-length-2
+    same-length-3
+    same-length-4
+    same-length-5
+    returns)

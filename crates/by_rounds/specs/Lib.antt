@@ -1,0 +1,3 @@
+pub mod Running
+pub mod State
+pub mod Held
