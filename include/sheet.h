@@ -12,15 +12,16 @@
  *    7  a double is a NaN or over its limit
  *    8  the drag is neither 65535, for none, nor the number of a body
  *    9  the scratch is too short
- *   10  an output slice is too short, or for sheet_write what it reads
+ *   10  an output slice or a running state is too short, or for sheet_write what it reads
  *   11  judging: the law does not suit the two ends
  *   12  judging: a tangent's ends are not round, or not round with a plane
  *   13  the sheet has no such relation
  *   14  a wheel of a gear has 0 teeth, or more than 400
- *   15  a parameter of sheet_solve_with is a NaN or outside its range
+ *   15  a parameter of sheet_solve_with, or of a call that solves by rounds, is a NaN or outside its range
+ *   16  solving by rounds: the portion is 0 or over 1000, or the unknown or row count that is handed over is not the sheet's
  *
  * Tests 1 to 4 come first, then each body in order by 5 and 7, then each relation in order by 5, 14, 6 and 7, then 13, 8, 11,
- * 12, 15, 10, 9. A test of what a call does not take is skipped. sheet_write has an order of its own, below.
+ * 12, 15, 16, 10, 9. A test of what a call does not take is skipped. sheet_write has an order of its own, below.
  *
  * Nothing is kept after a call, and no memory is taken: a call reads the sheet, or what it writes a sheet from, and writes
  * only where its output and scratch pointers point. No pointer may be null, no output or scratch may overlap what the call
@@ -89,6 +90,55 @@ uint32_t sheet_solve_with(const uint8_t *sheet, size_t sheet_len, uint16_t drag,
                           uint32_t row_limit, double drag_weight, double *scratch, size_t scratch_len, double *poses,
                           size_t poses_len, double *frames, size_t frames_len, double *errors, size_t errors_len,
                           uint8_t *converged);
+
+/* sheet_solve_with in portions of rounds, to watch the parts settle: sheet_solve_begin begins, and sheet_solve_on goes on from
+ * what the call before left, until run is 3. In between the caller holds all that there is of it, a running state:
+ *
+ *   unknowns   n, six times the number of unfixed bodies that relations name, at most 6*m
+ *   rows       R, the number of rows of all relations, at most 7*k
+ *   done       how many rounds the present run has made
+ *   run        1 in the first run, 2 in the retry, 3 finished
+ *   state      at least 1 + 2*n + R doubles: the damping; the n unknowns, for each such body in order three of its shift in
+ *              millimetres and three of its turn in radians, from where the sheet has it; where there is a retry the n unknowns
+ *              that the first run ended with, else n times 0; the R rows at the unknowns. What stands in it past these is kept.
+ *
+ * sheet_solve_begin writes all five, whatever stood there. sheet_solve_on is handed unknowns and rows as numbers, and writes
+ * the other three.
+ *
+ *   portion    1 to 1000: how many rounds the call makes, those of both runs counted together; fewer only where it finishes
+ *
+ * The set, the drag and the scratch are those of sheet_solve_with, and each call has its own. Each call fills in poses, frames,
+ * errors and converged as sheet_solve does, at the unknowns that it leaves, in the retry at the retry's; converged is 1 exactly
+ * if every error is at most this call's tolerance, whether the state is finished or not.
+ *
+ * By one set and drag all portions come to one end: beginning with p and going on with q leaves what beginning with p + q does,
+ * bit for bit; after at most two runs of the set's rounds the state is finished, with the answer of sheet_solve_with; and a
+ * finished state stays as it is, by any set, but for the flag.
+ *
+ * With another set or drag between two calls the unknowns and the damping are carried over. A run ends where every row is at
+ * most the call's tolerance, where a round finds nothing better, and with as many rounds as the call's set allows, or more. That
+ * is judged after each round, and in going on before the first one too: a coarser tolerance, or no more rounds than are done,
+ * end the run there. The call that ends the first run begins the retry, with a slight turn, if the run did not converge and n
+ * is not 0. Where the retry ends it is kept if it converged, or if its largest row is smaller than the first run's; else the
+ * first run's unknowns come back. The row limit counts where a run begins and nowhere else: with more rows it makes no round.
+ *
+ * All this is said of a state that sheet_solve_begin began and sheet_solve_on went on with, over one sheet. Of any other, with
+ * whatever doubles in it, no more is said than that it is accepted, that at most portion rounds are made, and that nothing else
+ * is written than what the call fills in. Any run but 1 and 2 counts as finished, and 3 is left.
+ *
+ * Another drag is refused by 8, a bad parameter by 15, a portion that is 0 or over 1000 by 16, and so are counts that differ
+ * from the sheet's; then a short state, short poses, frames or errors by 10, and short scratch by 9. A refused call leaves all
+ * that the caller holds as it was, unknowns, rows, done and run too. */
+uint32_t sheet_solve_begin(const uint8_t *sheet, size_t sheet_len, uint16_t drag, double tolerance, uint32_t rounds,
+                           uint32_t row_limit, double drag_weight, uint32_t portion, uint32_t *unknowns, uint32_t *rows,
+                           uint32_t *done, uint8_t *run, double *state, size_t state_len, double *scratch, size_t scratch_len,
+                           double *poses, size_t poses_len, double *frames, size_t frames_len, double *errors,
+                           size_t errors_len, uint8_t *converged);
+uint32_t sheet_solve_on(const uint8_t *sheet, size_t sheet_len, uint16_t drag, double tolerance, uint32_t rounds,
+                        uint32_t row_limit, double drag_weight, uint32_t portion, uint32_t unknowns, uint32_t rows,
+                        uint32_t *done, uint8_t *run, double *state, size_t state_len, double *scratch, size_t scratch_len,
+                        double *poses, size_t poses_len, double *frames, size_t frames_len, double *errors, size_t errors_len,
+                        uint8_t *converged);
 
 /* What freedom each body has with the others held still at the sheet's frames, and how much freedom the whole assembly has.
  * m and k are the sheet's numbers of bodies and relations.

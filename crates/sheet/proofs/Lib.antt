@@ -3,3 +3,4 @@ pub mod LimitLaws
 pub mod SolvingLaws
 pub mod FreedomLaws
 pub mod CaseLaws
+pub mod GoingLaws

@@ -82,7 +82,7 @@ few-rows p h =
 -- ---- what `solve` asks for
 
 module _ (s : List ℕ) (c : SceneStruct) (made : SceneMade s 24 (bodiesOf s) (24 + 136 * bodiesOf s) (relationsOf s) c) where
-  need-is : need c ≡ solveScratch s
+  pub need-is : need c ≡ solveScratch s
   need-is = rw (row-count s c made, unknown-count s c made, made .body-count)
 
   abbrev pub Asked : Parameters → ℕ → ℕ → ℕ → ℕ → Type 0

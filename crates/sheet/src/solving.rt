@@ -14,7 +14,7 @@ ghost use Rattle.scene.specs.Scene.{parametersOf};
 ghost use Rattle.sheet.specs.Solving as solving;
 
 // The dragged body; 65535 is none.
-fn drag_body(drag: u16) -> BodyRef
+pub fn drag_body(drag: u16) -> BodyRef
     ensures { λ r. ⌜ bodyNumber r ≡ solving.dragOf drag ⌝ }
 {
     if drag == 0xFFFF {
@@ -24,7 +24,7 @@ fn drag_body(drag: u16) -> BodyRef
 }
 
 // A flag as a byte.
-fn flag(ok: bool) -> u8
+pub fn flag(ok: bool) -> u8
     ensures { λ r. ⌜ r ≡ flagNumber ok ⌝ }
 {
     if ok { 1 } else { 0 }
