@@ -43,15 +43,15 @@ cast-unknowns : tie.Need-cast-unknowns
 cast-unknowns c =
     let read = c .before .before .before .before .before .before .before .before .before .before .before .before .before .before .before .before .before .before in
     let g = entry (read .before .before) .args in
-    let n = counts-fit (g .sheet .now) _ (read .scene-in .ensures) (chosen (g .tolerance) (g .rounds) (g .limit) (g .weight)) _ _ _ _ _ _ (accepted (read .before)) .0 in
-    omega (arith, n)
+    let n = counts-fit (g .sheet .now) _ (read .scene-in .ensures) (chosen (g .tolerance) (g .rounds) (g .limit) (g .weight)) _ _ _ _ _ _ (accepted (read .before)) in
+    omega (arith, n .0, n .1)
 
 cast-rows : tie.Need-cast-rows
 cast-rows c =
     let read = c .before .before .before .before .before .before .before .before .before .before .before .before .before .before .before .before .before .before .before in
     let g = entry (read .before .before) .args in
-    let n = counts-fit (g .sheet .now) _ (read .scene-in .ensures) (chosen (g .tolerance) (g .rounds) (g .limit) (g .weight)) _ _ _ _ _ _ (accepted (read .before)) .1 in
-    omega (arith, n)
+    let n = counts-fit (g .sheet .now) _ (read .scene-in .ensures) (chosen (g .tolerance) (g .rounds) (g .limit) (g .weight)) _ _ _ _ _ _ (accepted (read .before)) in
+    omega (arith, n .0, n .1)
 
 flag-requires : tie.Need-flag-requires
 flag-requires c κs = search needs
