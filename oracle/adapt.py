@@ -5,8 +5,9 @@
 OUT/tenon is tenon's solver, OUT/tenon_max the same with `max` as document 01 has it (the larger zero
 is +0), which tells whether that difference ever shows, OUT/tenon_gear the second with law 7, a gear,
 whose row is that of src/gear.rs. In all three the tolerance, the rounds, the row limit and the drag weight
-of `solve` are variables, which are tenon's constants until a caller sets them. Nothing of them is kept in
-the repository.
+of `solve` are variables, which are tenon's constants until a caller sets them. Parts of the two functions
+`solve` are functions of their own, which `solve` calls where they stood: so one round can be made from any
+state. Nothing of the copies is kept in the repository.
 
 Every change is a textual substitution with the number of places it must meet. Where a source is not
 as expected, the build stops here and says which substitution failed.
@@ -33,6 +34,12 @@ CHANGES = {
         ("\nfn norm2", "\npub fn norm2", 1),
         ("\nfn solve_dense", "\npub fn solve_dense", 1),
         ("rows > MAX_ROWS", "rows > crate::parameters().row_limit", 1),
+        # The damping that a run begins with.
+        ("let mut mu = 1e-10;", "let mut mu = DAMPING;", 1),
+        ("\npub const MAX_ROWS", "\npub const DAMPING: f64 = 1e-10;\npub const MAX_ROWS", 1),
+        # What PARTS leaves without a use.
+        ("    let nf = free.len();\n    let winv", "    let winv", 1),
+        ("    let mut rn = Vec::with_capacity(rows);\n    while", "    while", 1),
     ],
     "assembly/src/math.rs": [
         ("t.sin_cos()", "(arcs::sine(t), arcs::cosine(t))", 1),
@@ -56,6 +63,7 @@ CHANGES = {
         ("\nfn residuals(", "\npub fn residuals(", 1),
         ("\nfn layout(", "\npub fn layout(", 1),
         ("\nfn half_size(", "\npub fn half_size(", 1),
+        ("\nfn poses_at(", "\npub fn poses_at(", 1),
         # The poses are handed out beside the frames.
         ("pub struct Solution {\n", "pub struct Solution {\n    pub poses: Vec<Pose>,\n", 1),
         ("Solution { frames, converged: outcome.converged, errors: rel_errors(rels, &poses) }",
@@ -67,8 +75,40 @@ CHANGES = {
         ("{ DRAG_WEIGHT }", "{ set.drag_weight }", 1),
         ("        let retry = lm::solve(", "        let set = crate::begin(1);\n        let retry = lm::solve(", 1),
         ("tol::ASSEMBLY, MAX_ITER", "set.tolerance, set.rounds", 2),
+        ("    let mut x0 = vec!", "    let x0 = vec!", 1),
     ],
 }
+
+# Parts of a function that become functions: file, where the part begins and before what it ends (each found once), the call that takes its
+# place, and what stands before and after the part in its function, which is put at the file's end. The part itself keeps its text.
+ROWS_OF = "f: &dyn Fn(&[f64], &mut Vec<f64>)"
+PARTS = [
+    ("sketch/src/lm.rs", "    let winv: Vec<f64> = ", "    let mut mu = ",
+     "    let winv = inverse_weights(free, weights);\n",
+     "pub fn inverse_weights(free: &[usize], weights: &[f64]) -> Vec<f64> {\n", "    winv\n}\n"),
+    # A round: from the unknowns, the rows, their cost and the damping to those after it, and whether something better was found.
+    ("sketch/src/lm.rs", "        let jac = jacobian(f, &x, free, rows);\n", "        if max_abs(&r) <= tol {\n            return",
+     "        let improved;\n        (x, r, cost, mu, improved) = round(f, free, &winv, x, r, cost, mu);\n",
+     f"""pub fn round(
+    {ROWS_OF}, free: &[usize], winv: &[f64], mut x: Vec<f64>, mut r: Vec<f64>, mut cost: f64, mut mu: f64,
+) -> (Vec<f64>, Vec<f64>, f64, f64, bool) {{
+        let (rows, nf) = (r.len(), free.len());
+        let mut rn = Vec::with_capacity(rows);
+""", "        (x, r, cost, mu, improved)\n}\n"),
+    ("assembly/src/solve.rs", "    let mut weights = vec!", "    let f = |x: &[f64], out: &mut Vec<f64>| residuals(",
+     "    let weights = weights(bodies, &index, n, drag, set);\n",
+     "pub fn weights(bodies: &[Body], index: &[Option<usize>], n: usize, drag: Option<usize>, set: crate::Parameters) -> Vec<f64> {\n",
+     "    weights\n}\n"),
+    ("assembly/src/solve.rs", "        // A start exactly half a turn from the answer", "        let set = crate::begin(1);\n",
+     "        let x0 = slight_turn(x0);\n", "pub fn slight_turn(mut x0: Vec<f64>) -> Vec<f64> {\n", "        x0\n}\n"),
+    # Whether the retry's outcome takes the place of the first run's.
+    ("assembly/src/solve.rs", "        let cost = |x: &[f64]| {\n", "            outcome = retry;\n",
+     "        if is_kept(&f, &retry, &outcome) {\n",
+     f"pub fn is_kept({ROWS_OF}, retry: &lm::Outcome, outcome: &lm::Outcome) -> bool {{\n", "            return true;\n        }\n        false\n}\n"),
+    ("assembly/src/solve.rs", "    let poses = poses_at(&outcome.x, bodies, &index);\n", "}\n\n/// A rigid motion",
+     "    solution(bodies, rels, &index, outcome)\n",
+     "pub fn solution(bodies: &[Body], rels: &[Rel], index: &[Option<usize>], outcome: lm::Outcome) -> Solution {\n", "}\n"),
+]
 
 # What puts the gear into solve.rs of tenon_gear: (old, new), each found once.
 GEAR = [
@@ -248,6 +288,9 @@ def main(source, out):
             text = replace(text, old, new, places, name)
             done += places
         texts[name] = text
+    for name, first, last, call, head, tail in PARTS:
+        part = between(texts[name], first, last, name)
+        texts[name] = replace(texts[name], part, call, 1, name) + "\n" + head + part + tail
     lib = (crates / "geom/src/lib.rs").read_text()
     constants = between(lib, "/// Geometric tolerance for 2D", "/// Counter-clockwise sweep", "geom/src/lib.rs")
     model = (crates / "assembly/src/model.rs").read_text()
@@ -277,7 +320,8 @@ def main(source, out):
                 for old, new in GEAR:
                     text = replace(text, old, new, 1, name)
             (folder / short).write_text(text)
-    print(f"adapt: {done} places changed in {len(CHANGES) + 2} files of tenon, {len(GEAR)} more for the gear, {len(names)} branch counters")
+    print(f"adapt: {done} places changed in {len(CHANGES) + 2} files of tenon, {len(PARTS)} parts of functions made functions, "
+          f"{len(GEAR)} more for the gear, {len(names)} branch counters")
 
 
 if __name__ == "__main__":

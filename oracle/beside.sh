@@ -12,7 +12,7 @@ other=$1
 shift
 mkdir -p "$here/build"
 renamed=()
-for call in judge joint_reading snap solve solve_with dof write; do
+for call in judge joint_reading snap solve solve_with solve_begin solve_on dof write; do
     renamed+=(--redefine-sym "sheet_$call=other_$call")
 done
 objcopy "${renamed[@]}" "$other" "$here/build/libother.a"

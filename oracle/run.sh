@@ -1,12 +1,14 @@
 #!/usr/bin/env bash
-# Compares the port with the Rust: the arcs and the root of target/staticlib/libarcs.a, the six calls on a sheet of libsheet.a beside it, and
-# the program target/bin/report. Each must be there and built after the last change of the crates' sources. The oracle is built from
+# Compares the port with the Rust: the arcs and the root of target/staticlib/libarcs.a, the eight calls on a sheet of libsheet.a beside it,
+# and the program target/bin/report. Each must be there and built after the last change of the crates' sources. The oracle is built from
 # tenon's unchanged sources (build.sh) and held to document 01's examples and to the frozen lists. The call that solves with a set of
-# parameters is compared with the Rust whose four constants are the set's. Sheets with gears, which tenon does not have, are compared with
-# the second program's rows (src/gear.rs), put into a copy of tenon; the call that writes a sheet, which tenon does not have either, with a
-# second writer (src/writing.rs); the number that opening a sheet gives, on sheets with any byte changed, with the oracle's own reader
-# (src/sheet.rs). Every comparison prints how much it compared. Ends with 0 if nothing differs and every kind of case that is wanted was met.
-# Where tenon's sources or rustc are missing it says that nothing was compared, and ends with 0, or with 1 if CI is set.
+# parameters is compared with the Rust whose four constants are the set's, the two that solve by rounds with a machine over the Rust's own
+# rounds (src/by_rounds.rs). Sheets with gears, which tenon does not have, are compared with the second program's rows (src/gear.rs), put
+# into a copy of tenon; the call that writes a sheet, which tenon does not have either, with a second writer (src/writing.rs); the number
+# that opening a sheet gives, on sheets with any byte changed, with the oracle's own reader (src/sheet.rs). The example examples/settle.c is
+# run, which solves by rounds and at once. Every comparison prints how much it compared. Ends with 0 if nothing differs and every kind of
+# case that is wanted was met. Where tenon's sources or rustc are missing it says that nothing was compared, and ends with 0, or with 1 if
+# CI is set; where cc is missing it says so of the example, and goes on, or ends with 1 if CI is set.
 # Takes 100 to 180 s on two cores, by what else they do.
 set -u
 cd "$(dirname "$0")" || exit 2
@@ -71,6 +73,13 @@ lists_and_rows() {
     python3 exact_rows.py build/lists 1 2000 || good=1
     return $good
 }
+# The example that solves by rounds: a C program over include/sheet.h.
+settled() {
+    local said
+    said=$(../examples/settle.sh ../examples/movement.sheet 2>&1) || { echo "$said"; return 1; }
+    echo "$said"
+    grep -qx "round by round and at once agree" <<<"$said"
+}
 # With the example sheets, and the one of 64 bodies and 128 relations that make.py writes beside them.
 limits() {
     mkdir -p build/examples
@@ -115,6 +124,14 @@ step limits
 step build/oracle run-report ../tools/report.sh 3 300
 step build/oracle gears 6 600 ../tools/report.sh
 step build/oracle parameters 7 800 ../examples/*.sheet
+step build/oracle portions 11 800 ../examples/*.sheet
+if command -v cc >/dev/null; then
+    step settled
+elif [ -n "${CI:-}" ]; then
+    fail "no cc for examples/settle.c, and CI is set"
+else
+    echo "oracle: no cc: examples/settle.c was not run"
+fi
 step build/oracle opening
 step build/oracle write 4 12000 ../examples/*.sheet
 step lists_and_rows

@@ -32,7 +32,8 @@ pub fn run() -> bool {
     true
 }
 
-/// Opening each sheet, 200 times a run; `solve` and `dof` on it, both sides from its bytes on, `solve` also to 1e-3 and to 1e-12; writing its scene, tests included.
+/// Opening each sheet, 200 times a run; `solve` and `dof` on it, both sides from its bytes on, `solve` also to 1e-3 and to 1e-12; our `solve` one round a
+/// call beside the same at once; writing its scene, tests included.
 pub fn sheets(files: &[&str]) -> bool {
     let lots = 2_000_000;
     let mut scratch = vec![f64::NAN; lots];
@@ -55,6 +56,11 @@ pub fn sheets(files: &[&str]) -> bool {
             let ours = milliseconds(&mut || port::run(&bytes, call, &mut scratch));
             println!("{name:6} {m:2} bodies, {k:3} relations: {ours:9.3} ms   Rust {theirs:9.3} ms   ratio {:.2}", ours / theirs);
         }
+        let mut lent = [2000, 12 * m, 12 * m, k].map(|n| vec![0.0; n]);
+        let [state, poses, frames, errors] = lent.each_mut().map(|slice| &mut slice[..]);
+        let whole = milliseconds(&mut || port::run(&bytes, solve(None), &mut scratch));
+        let rounds = milliseconds(&mut || port::round_by_round(&bytes, state, &mut scratch, [&mut *poses, &mut *frames, &mut *errors]));
+        println!("rounds {m:2} bodies, {k:3} relations: {rounds:9.3} ms   at once {whole:6.3} ms   ratio {:.2}", rounds / whole);
         let scene = writing::apart(&bytes);
         let mut written = vec![0; bytes.len()];
         let theirs = milliseconds(&mut || {

@@ -149,7 +149,9 @@ pub fn own() -> Set {
 fn solved(scene: &Scene, drag: u16, of_runs: [Parameters; 2]) -> Answer {
     tenon::set_parameters(of_runs);
     let drag = (drag != sheet::GROUND).then_some(drag as usize);
-    let s = solve::solve(&scene.bodies, &scene.rels, drag);
+    filled_in(solve::solve(&scene.bodies, &scene.rels, drag))
+}
+fn filled_in(s: solve::Solution) -> Answer {
     Answer::Solve {
         poses: s.poses.iter().flat_map(|p| pose_list(&p.r, p.t)).collect(),
         frames: s.frames.iter().flat_map(frame_list).collect(),

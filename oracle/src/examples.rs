@@ -1,12 +1,14 @@
-//! Document 01's own examples, asked of the oracle: the table of refusals, report's text, the marked cases; a gear's, by request 1/14; and what
-//! request 5/14 says of sets of parameters.
+//! Document 01's own examples, asked of the oracle: the table of refusals, report's text, the marked cases; a gear's, by request 1/14; what
+//! request 5/14 says of sets of parameters; and what request 6/14 says of solving by rounds, on sheets that can be worked by hand.
 
 use crate::answer::{Answer, Call, Set};
 use crate::generate;
 use crate::plain::body_of;
+use crate::running::{FINISHED, FIRST, Held, Portion, RETRY, Told};
 use crate::sheet::*;
 use crate::trains::{pose_of, worked};
-use crate::whole::{answer, report};
+use crate::trials::off_by;
+use crate::whole::{answer, by_rounds, report};
 use crate::{plain, with_gears, with_max01};
 use tenon::{lm, solve};
 
@@ -88,7 +90,8 @@ pub fn run() -> bool {
     holds("801 rows", !converged(&named("801 rows")));
     gears(&example.bodies[0], &mut holds);
     sets(&limits, &mut holds);
-    println!("examples of document 01 and of requests 1/14 and 5/14: {count}, {failed} do not hold");
+    portions(&limits, &mut holds);
+    println!("examples of document 01 and of requests 1/14, 5/14 and 6/14: {count}, {failed} do not hold");
     failed == 0
 }
 
@@ -168,4 +171,124 @@ fn sets(limits: &[(&str, Sheet)], holds: &mut impl FnMut(&str, bool)) {
     holds("off by 1e-9, finer", !converged("a fixed point off by 1e-9", tolerance(1e-9f64.next_down())));
     holds("off by the next double, coarser", converged("a fixed point off by the next double", tolerance(1e-9f64.next_up())));
     holds("800 rows over the limit", !converged("800 rows", row_limit(799)));
+}
+
+/// Request 6/14: when a run ends and when it begins, what is carried over, the flag, and the place of 16 among the tests.
+fn portions(limits: &[(&str, Sheet)], holds: &mut impl FnMut(&str, bool)) {
+    let (plain, lots) = (Set::PLAIN, 2_000_000);
+    let fine = Set { tolerance: 1e-12, ..plain };
+    let call = |set: Set, portion: u32, counts: Option<[u32; 2]>| Portion {
+        counts,
+        drag: GROUND,
+        set,
+        portion,
+        state: 1000,
+        scratch: lots,
+        poses: lots,
+        frames: lots,
+        errors: lots,
+    };
+    let memory = || Held { done: 5, run: 9, state: vec![f64::NAN; 1000] };
+    let begun = |sheet: &Sheet, set: Set, portion: u32| by_rounds(&sheet.bytes(), &call(set, portion, None), &memory()).unwrap();
+    let on = |sheet: &Sheet, told: &Told, set: Set, portion: u32| {
+        let mut held = told.held();
+        held.state.resize(1000, f64::NAN);
+        by_rounds(&sheet.bytes(), &call(set, portion, Some(told.counts)), &held).unwrap()
+    };
+    let named = |name: &str| limits.iter().find(|(n, _)| *n == name).unwrap().1.clone();
+    let solved = |sheet: &Sheet, set: Set, told: &Told| {
+        let whole = Call::Solve { drag: GROUND, set: Some(set), scratch: lots, poses: lots, frames: lots, errors: lots };
+        answer(&sheet.bytes(), whole).is_ok_and(|whole| told.answers(&whole))
+    };
+    let is = |told: &Told, counts: [u32; 2], done: u32, run: u8, flag: bool| {
+        (told.counts, told.done, told.run, told.flag(), told.state.len() as u32) == (counts, done, run, flag, 1 + 2 * counts[0] + counts[1])
+    };
+
+    // What holds as it stands is finished at once, and so is what nothing moves in.
+    let example = named("the worked example");
+    let told = begun(&example, plain, 1);
+    holds("the worked example is finished at once", is(&told, [6, 3], 0, FINISHED, true) && solved(&example, plain, &told));
+    holds("with unknowns and rows of 0", told.state[0] == 1e-10 && told.state[1..].iter().all(|d| *d == 0.0));
+    for name in ["nothing", "an unnamed free body", "64 unnamed bodies"] {
+        holds("no unknowns and no rows", is(&begun(&named(name), plain, 1), [0, 0], 0, FINISHED, true));
+    }
+    let off = named("a fixed point off by the next double");
+    let told = begun(&off, plain, 1);
+    holds("nothing may move", is(&told, [0, 3], 0, FINISHED, false));
+    let coarse = Set { tolerance: 1e-9f64.next_up(), ..plain };
+    holds("finished, the flag is that of the call's set", is(&on(&off, &told, coarse, 1), [0, 3], 0, FINISHED, true));
+
+    // A free body whose point, which is its centre, is 0.25 mm off: a round leaves about 1e-10 of it, and a tenth of the damping.
+    let mut off = off_by(0, 0.25);
+    off.bodies[0].center[0] = 0.25;
+    let told = begun(&off, plain, 1);
+    holds("one round is enough for 1e-9", is(&told, [6, 3], 1, FINISHED, true) && solved(&off, plain, &told));
+    let told = begun(&off, fine, 1);
+    let row = told.state[13].abs();
+    holds("one round is not for 1e-12", is(&told, [6, 3], 1, FIRST, false) && (1e-12..1e-9).contains(&row) && told.state[0] == 1e-10 * 0.1);
+    let end = on(&off, &told, fine, 1);
+    holds("two are", is(&end, [6, 3], 2, FINISHED, true) && solved(&off, fine, &end));
+    holds("in one call too", begun(&off, fine, 2).same(&end) && begun(&off, fine, 1000).same(&end));
+    holds("finished it stays", on(&off, &end, fine, 1000).same(&end));
+    let coarser = on(&off, &told, plain, 1000);
+    holds("a coarser tolerance ends the run", is(&coarser, [6, 3], 1, FINISHED, true) && coarser.held().state == told.held().state);
+    holds("the largest row ends it, the double before does not", {
+        let at = |tolerance: f64| on(&off, &told, Set { tolerance, ..plain }, 1).done;
+        (at(row), at(row.next_down())) == (1, 2)
+    });
+    let limited = on(&off, &told, Set { row_limit: 1, ..fine }, 1);
+    holds("the row limit does not count on going on", limited.same(&end));
+
+    // As many rounds as the set allows end the first run, and the retry begins in that call: a slight turn, which leaves the point where it is.
+    let turn = [0.0, 0.0, 0.0, 0.05, -0.03, 0.07];
+    let one = Set { rounds: 1, ..fine };
+    let told = begun(&off, one, 1);
+    holds("the retry begins", is(&told, [6, 3], 0, RETRY, false) && told.state[0] == 1e-10 && told.state[1..7] == turn);
+    holds("the first run's unknowns are kept", (0.24..0.26).contains(&told.state[7].abs()) && told.state[13].abs() == 0.25);
+    let last = on(&off, &told, one, 1);
+    holds(
+        "its one round comes as near, not nearer",
+        is(&last, [6, 3], 1, FINISHED, false) && last.state[1..7] == told.state[7..13] && solved(&off, one, &last),
+    );
+    holds("both in a portion of 2", begun(&off, one, 2).same(&last));
+    let fewer = on(&off, &begun(&off, fine, 1), one, 1);
+    holds("rounds that are done end the run, and the portion is the retry's", fewer.same(&last));
+    let over = on(&off, &begun(&off, fine, 1), Set { row_limit: 2, ..one }, 1);
+    holds("over the row limit the retry has no round", is(&over, [6, 3], 0, FINISHED, false) && over.state[1..7] == over.state[7..13]);
+
+    // 800 rows are iterated, 801 are not.
+    holds("800 rows", begun(&named("800 rows"), plain, 1).rounds == [1, 0]);
+    let most = begun(&named("801 rows"), plain, 1000);
+    holds("801 rows", is(&most, [6, 801], 0, FINISHED, false) && most.rounds == [0, 0]);
+
+    // Another byte than 1 and 2 counts as finished.
+    let sheet = example.bytes();
+    for run in [0, 4, 255] {
+        let held = Held { done: u32::MAX, run, state: vec![0.25; 1000] };
+        let told = by_rounds(&sheet, &call(plain, 1000, Some([6, 3])), &held).unwrap();
+        holds("another byte", is(&told, [6, 3], u32::MAX, FINISHED, false) && told.state == vec![0.25; 16]);
+    }
+
+    // 16, after 8 and 15, before 10 and 9.
+    let refused = |call: Portion, number: u32| by_rounds(&sheet, &call, &memory()).is_err_and(|given| given == number);
+    let none = Set { rounds: 0, ..plain };
+    for portion in [0, 1001, u32::MAX] {
+        for counts in [None, Some([6, 3])] {
+            holds("16", refused(call(plain, portion, counts), 16));
+            holds("8 before 16", refused(Portion { drag: 1, ..call(plain, portion, counts) }, 8));
+            holds("15 before 16", refused(call(none, portion, counts), 15));
+            holds("16 before 10", refused(Portion { state: 15, ..call(plain, portion, counts) }, 16));
+            holds("16 before 9", refused(Portion { scratch: 0, ..call(plain, portion, counts) }, 16));
+        }
+    }
+    for counts in [[5, 3], [7, 3], [6, 2], [6, 4], [0, 0], [3, 6]] {
+        holds("16 for the counts", refused(call(plain, 1, Some(counts)), 16));
+    }
+    for counts in [None, Some([6, 3])] {
+        for portion in [1, 1000] {
+            let accepted = |state: usize| by_rounds(&sheet, &Portion { state, ..call(plain, portion, counts) }, &memory()).map(|_| ());
+            holds("a state of 16 doubles", accepted(16) == Ok(()) && accepted(15) == Err(10));
+        }
+        holds("10 before 9", refused(Portion { state: 15, scratch: 0, ..call(plain, 1, counts) }, 10));
+    }
 }

@@ -1,4 +1,4 @@
-//! The seven calls of a sheet library over its C interface, include/sheet.h.
+//! The nine calls of a sheet library over its C interface, include/sheet.h.
 
 /// Declares them in a module, for a library whose calls begin with a prefix.
 macro_rules! library {
@@ -36,6 +36,58 @@ macro_rules! library {
                     rounds: u32,
                     row_limit: u32,
                     drag_weight: f64,
+                    scratch: *mut f64,
+                    scratch_len: usize,
+                    poses: *mut f64,
+                    poses_len: usize,
+                    frames: *mut f64,
+                    frames_len: usize,
+                    errors: *mut f64,
+                    errors_len: usize,
+                    converged: *mut u8,
+                ) -> u32;
+                #[link_name = concat!($prefix, "_solve_begin")]
+                pub fn solve_begin(
+                    sheet: *const u8,
+                    sheet_len: usize,
+                    drag: u16,
+                    tolerance: f64,
+                    rounds: u32,
+                    row_limit: u32,
+                    drag_weight: f64,
+                    portion: u32,
+                    unknowns: *mut u32,
+                    rows: *mut u32,
+                    done: *mut u32,
+                    run: *mut u8,
+                    state: *mut f64,
+                    state_len: usize,
+                    scratch: *mut f64,
+                    scratch_len: usize,
+                    poses: *mut f64,
+                    poses_len: usize,
+                    frames: *mut f64,
+                    frames_len: usize,
+                    errors: *mut f64,
+                    errors_len: usize,
+                    converged: *mut u8,
+                ) -> u32;
+                #[link_name = concat!($prefix, "_solve_on")]
+                pub fn solve_on(
+                    sheet: *const u8,
+                    sheet_len: usize,
+                    drag: u16,
+                    tolerance: f64,
+                    rounds: u32,
+                    row_limit: u32,
+                    drag_weight: f64,
+                    portion: u32,
+                    unknowns: u32,
+                    rows: u32,
+                    done: *mut u32,
+                    run: *mut u8,
+                    state: *mut f64,
+                    state_len: usize,
                     scratch: *mut f64,
                     scratch_len: usize,
                     poses: *mut f64,

@@ -7,6 +7,7 @@ use crate::gears;
 use crate::generate;
 use crate::parameters;
 use crate::plain::{self, list, vec3};
+use crate::portions;
 use crate::rng::Rng;
 use crate::scenes::{self, Case};
 use crate::sheet::{Body, Relation, Sheet};
@@ -497,6 +498,24 @@ fn sheets_with_sets(dir: &str) {
     list.write(dir, "sheets_parameters");
 }
 
+/// Sheets solved by rounds, each schedule of calls kept for a kind of case that none before it is.
+fn sheets_by_rounds(dir: &str) {
+    let mut list = List::new();
+    for (bytes, schedules) in portions::listed(17, 60) {
+        let mut record = vec![bytes.len() as u64];
+        record.extend(record_words(&bytes));
+        record.push(schedules.len() as u64);
+        for steps in schedules {
+            record.push(steps.len() as u64);
+            steps.iter().for_each(|step| record.extend(portions::step_words(step)));
+        }
+        // What the program reads after the list's end.
+        assert!(!record.contains(&u64::MAX));
+        list.put_words(&record);
+    }
+    list.write(dir, "sheets_portions");
+}
+
 /// A scene that is lent and what writing it gives: m, k, the lengths of bytes, words, numbers and sheet, then bytes, words and numbers, the
 /// number, and for 0 the sheet.
 fn scene_words(case: &Case) -> Vec<u64> {
@@ -563,6 +582,7 @@ pub fn write(dir: &str, scale: usize) -> bool {
     geared_sheets(dir, &mut Rng(10), scale);
     written_scenes(dir);
     sheets_with_sets(dir);
+    sheets_by_rounds(dir);
     let count = |taken: &[bool]| taken.iter().filter(|t| **t).count();
     println!("branches of the Rust: {}, taken for single functions {}, for sheets {}", tenon::NAMES.len(), count(&by_functions), count(&taken()));
     for ((name, function), sheet) in tenon::NAMES.iter().zip(by_functions).zip(taken()) {

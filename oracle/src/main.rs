@@ -17,8 +17,11 @@ mod lists;
 mod opening;
 mod parameters;
 mod port;
+mod portions;
 mod rng;
+mod running;
 mod scenes;
+mod schedules;
 mod sets;
 mod sheet;
 mod trains;
@@ -31,6 +34,7 @@ mod writing;
 mod plain {
     use tenon;
     include!("calls.rs");
+    include!("by_rounds.rs");
     fn gear_of(_: &sheet::Relation) -> Law {
         panic!("tenon has no gear")
     }
@@ -40,6 +44,7 @@ mod with_max01 {
     #![allow(dead_code)]
     use tenon_max as tenon;
     include!("calls.rs");
+    include!("by_rounds.rs");
     fn gear_of(_: &sheet::Relation) -> Law {
         panic!("tenon has no gear")
     }
@@ -49,6 +54,7 @@ mod with_gears {
     #![allow(dead_code)]
     use tenon_gear as tenon;
     include!("calls.rs");
+    include!("by_rounds.rs");
     fn gear_of(r: &sheet::Relation) -> Law {
         Law::Gear { carrier: end_of(&r.ends[2]), angle: r.angle, teeth: r.teeth }
     }
@@ -70,6 +76,7 @@ oracle run-report PROGRAM SEED N    the program report against the Rust
 oracle gears SEED N [PROGRAM] the sheet library, and the program report, on gears: 8N rows, N valid and N damaged sheets
 oracle opening                the number that the sheet library's opening gives against the oracle's own reader's, on sheets changed in any byte
 oracle parameters SEED N FILE..    `solve` of the sheet library with sets of parameters against the Rust, on N sheets and on those in these files
+oracle portions SEED N FILE..    the sheet library's solving by rounds against the Rust's rounds, on N sheets and on those in these files
 oracle write SEED N FILE..    the sheet library's writing against the second writer: N scenes, fields changed, limits, the sheets in these files
 oracle lists DIR [SCALE]      the frozen lists (FORMATS.md); SCALE above 1 makes longer ones";
 
@@ -96,6 +103,7 @@ fn main() {
         ["gears", seed, n, program] => gears::run(number(seed) as u64, number(n), Some(program)),
         ["opening"] => opening::run(),
         ["parameters", seed, n, ref files @ ..] => parameters::run(number(seed) as u64, number(n), files),
+        ["portions", seed, n, ref files @ ..] => portions::run(number(seed) as u64, number(n), files),
         ["write", seed, n, ref files @ ..] => scenes::run(number(seed) as u64, number(n), files),
         ["bench"] => bench::run(),
         ["bench", ref files @ ..] => bench::sheets(files),

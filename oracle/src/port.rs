@@ -1,6 +1,7 @@
 //! The calls of the sheet library, `libsheet.a`, over its C interface.
 
 use crate::answer::{Answer, Call, Set, bits};
+use crate::running::{Held, Portion, Told};
 
 library!(linked, "sheet");
 
@@ -117,4 +118,67 @@ pub fn same(bytes: &[u8], call: Call, answer: &Result<Answer, u32>, scratch: &mu
 
 fn untouched(scratch: &[f64], before: &[f64], from: usize) -> bool {
     scratch[from..].iter().zip(&before[from..]).all(|(a, b)| a.to_bits() == b.to_bits())
+}
+
+/// What stands in the counts before a call that begins.
+pub const COUNTS_BEFORE: [u32; 2] = [777, 888];
+
+/// The same of a call that solves by rounds, from what its caller holds. Of the state's memory, too, nothing past the lent length may be touched.
+pub fn same_by_rounds(bytes: &[u8], call: &Portion, held: &Held, told: &Result<Told, u32>, scratch: &mut Vec<f64>) -> bool {
+    let (sheet, len, drag, p) = (bytes.as_ptr(), bytes.len(), call.drag, call.portion);
+    let Set { tolerance: t, rounds: r, row_limit: l, drag_weight: w } = call.set;
+    scratch.resize(scratch.len().max(call.scratch + GUARD), f64::NAN);
+    let before = scratch[..call.scratch + GUARD].to_vec();
+    let (s, sl) = (scratch.as_mut_ptr(), call.scratch);
+    let held_before: Vec<f64> = held.state.iter().copied().chain((0..GUARD).map(filler)).collect();
+    let (mut state, mut done, mut run) = (held_before.clone(), held.done, held.run);
+    let (st, stl) = (state.as_mut_ptr(), call.state);
+    assert!(stl <= held.state.len());
+    let ([mut poses, mut frames, mut errors], mut flag) = ([call.poses, call.frames, call.errors].map(lent), 77u8);
+    let [(o, ol), (f, fl), (e, el)] =
+        [(&mut poses, call.poses), (&mut frames, call.frames), (&mut errors, call.errors)].map(|(memory, n)| (memory.as_mut_ptr(), n));
+    let mut counts = COUNTS_BEFORE;
+    let [unknowns, rows] = &mut counts;
+    let got = unsafe {
+        match call.counts {
+            None => linked::solve_begin(
+                sheet, len, drag, t, r, l, w, p, unknowns, rows, &mut done, &mut run, st, stl, s, sl, o, ol, f, fl, e, el, &mut flag,
+            ),
+            Some([n, k]) => {
+                linked::solve_on(sheet, len, drag, t, r, l, w, p, n, k, &mut done, &mut run, st, stl, s, sl, o, ol, f, fl, e, el, &mut flag)
+            }
+        }
+    };
+    let state_is = |filled: &[f64]| {
+        let begins = state.iter().zip(filled).all(|(d, want)| bits(*d) == bits(*want));
+        begins && untouched(&state, &held_before, filled.len())
+    };
+    match told {
+        Err(number) => {
+            let kept = counts == COUNTS_BEFORE && (done, run, flag) == (held.done, held.run, 77);
+            let unfilled = [&poses, &frames, &errors].iter().all(|memory| holds(memory, &[]));
+            got == *number && kept && state_is(&[]) && unfilled && untouched(scratch, &before, 0)
+        }
+        Ok(told) => {
+            let Answer::Solve { poses: wp, frames: wf, errors: we, converged } = &told.answer else { return false };
+            let counted = if call.counts.is_none() { counts == told.counts } else { true };
+            let held = (done, run) == (told.done, told.run) && state_is(&told.state);
+            let filled = holds(&poses, wp) && holds(&frames, wf) && holds(&errors, we) && flag == *converged as u8;
+            got == 0 && counted && held && filled && untouched(scratch, &before, call.scratch)
+        }
+    }
+}
+
+/// Solves an accepted sheet by the plain set, without a drag, one round a call, to its end. For its time; memory is lent once.
+pub fn round_by_round(bytes: &[u8], state: &mut [f64], scratch: &mut [f64], [poses, frames, errors]: [&mut [f64]; 3]) {
+    let (sheet, len, drag) = (bytes.as_ptr(), bytes.len(), crate::sheet::GROUND);
+    let Set { tolerance: t, rounds: r, row_limit: l, drag_weight: w } = Set::PLAIN;
+    let [(st, stl), (s, sl), (o, ol), (f, fl), (e, el)] = [state, scratch, poses, frames, errors].map(|slice| (slice.as_mut_ptr(), slice.len()));
+    let (mut n, mut k, mut done, mut run, mut flag) = (0, 0, 0, 0, 0);
+    unsafe {
+        linked::solve_begin(sheet, len, drag, t, r, l, w, 1, &mut n, &mut k, &mut done, &mut run, st, stl, s, sl, o, ol, f, fl, e, el, &mut flag);
+        while run != crate::running::FINISHED {
+            linked::solve_on(sheet, len, drag, t, r, l, w, 1, n, k, &mut done, &mut run, st, stl, s, sl, o, ol, f, fl, e, el, &mut flag);
+        }
+    }
 }

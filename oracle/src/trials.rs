@@ -25,7 +25,7 @@ fn tie(law: u8, [a, b]: [u8; 2]) -> Relation {
 }
 
 /// A body 0.25 mm off where its relations hold: rigid joints, of seven rows, and mates of a plane and a point, of one.
-fn of_many_rows(rows: usize) -> Sheet {
+pub fn of_many_rows(rows: usize) -> Sheet {
     let relations = [vec![tie(JOINT, [PLANE, PLANE]); rows / 7], vec![tie(MATE, [PLANE, POINT]); rows % 7]].concat();
     let mut sheet = Sheet { bodies: vec![body()], relations };
     sheet.bodies[0].frame[0] = [0.0, 0.0, 0.25];
@@ -33,14 +33,14 @@ fn of_many_rows(rows: usize) -> Sheet {
 }
 
 /// A body's point so far off the ground's.
-fn off_by(fixed: u8, by: f64) -> Sheet {
+pub fn off_by(fixed: u8, by: f64) -> Sheet {
     let mut sheet = Sheet { bodies: vec![Body { fixed, ..body() }], relations: vec![tie(MATE, [POINT, POINT])] };
     sheet.bodies[0].frame[0][0] = by;
     sheet
 }
 
 /// A body that stands off its rigid joint by so much of the second run's slight turn, backwards.
-fn turned_back(by: f64) -> Sheet {
+pub fn turned_back(by: f64) -> Sheet {
     let turning = M3::exp(vec3([0.05, -0.03, 0.07]) * -by);
     let mut sheet = Sheet { bodies: vec![body()], relations: vec![tie(JOINT, [PLANE, PLANE])] };
     (0..3).for_each(|i| sheet.bodies[0].frame[1 + i] = list(turning.col(i)));
@@ -48,7 +48,7 @@ fn turned_back(by: f64) -> Sheet {
 }
 
 /// A sheet that the test of a number refuses.
-fn spoiled(base: &Sheet, number: u32) -> Vec<u8> {
+pub fn spoiled(base: &Sheet, number: u32) -> Vec<u8> {
     let mut sheet = base.clone();
     match number {
         5 => sheet.bodies[0].fixed = 2,

@@ -1,6 +1,7 @@
 //! Which copy of tenon answers: the one with gears for a sheet that has a gear, tenon itself for every other.
 
 use crate::answer::{Answer, Call, Set};
+use crate::running::{Held, Portion, Told};
 use crate::sheet::{self, Sheet};
 use crate::{plain, with_gears};
 
@@ -11,6 +12,16 @@ pub fn has_gear(bytes: &[u8]) -> bool {
 /// The answer of a call on any bytes, or the number it is refused with.
 pub fn answer(bytes: &[u8], call: Call) -> Result<Answer, u32> {
     if has_gear(bytes) { with_gears::answer(bytes, call) } else { plain::answer(bytes, call) }
+}
+
+/// What a call that solves by rounds makes of what its caller holds, or the number it is refused with.
+pub fn by_rounds(bytes: &[u8], call: &Portion, held: &Held) -> Result<Told, u32> {
+    if has_gear(bytes) { with_gears::by_rounds(bytes, call, held) } else { plain::by_rounds(bytes, call, held) }
+}
+
+/// The rows where all unknowns are 0.
+pub fn start_rows(sheet: &Sheet) -> Vec<f64> {
+    if sheet.has_gear() { with_gears::start_rows(sheet) } else { plain::start_rows(sheet) }
 }
 
 /// What `solve` fills in on an accepted sheet if its first run goes by the one set and its second by the other.
@@ -27,6 +38,11 @@ pub fn report(input: &[u8]) -> String {
 pub fn scratch(sheet: &Sheet) -> (usize, usize) {
     let scene = with_gears::Scene::of(sheet);
     (scene.solve_scratch(), scene.dof_scratch())
+}
+
+/// n, the sheet's unknown count.
+pub fn unknowns(sheet: &Sheet) -> usize {
+    with_gears::Scene::of(sheet).unknowns()
 }
 
 /// R, the sheet's row count.
