@@ -5,8 +5,8 @@
 
 The page's own tables are worked: formulas by tools/formulas.py, and relations, bodies and headers by the page's offsets.
 Nothing of the solver's code or of the Rust is used. The frozen answers are those of the Rust, and for gears and for saving, which
-it does not have, those of a second program of ours; for calls that choose parameters, those of the Rust built with what is chosen.
-The comparisons:
+it does not have, those of a second program of ours; for calls that choose parameters, those of the Rust built with what is chosen, and
+for calls that solve by rounds those of a second program of ours over its rounds. The comparisons:
 
   rows        crates/row_list/data/rows.bin, the Rust's, and gear_rows.bin, our second program's: every row and every error, bit
               for bit; the unit of every row, by doubling all lengths
@@ -19,11 +19,16 @@ The comparisons:
   parameters  sheets_parameters.bin there: which number every call gives that chooses parameters; of every accepted one the same as of
               the solved ones, by its own tolerance; that over the row limit nothing moves but by the slight turn, and that a body
               dragged by the weight 1 is as one that is not dragged
+  portions    crates/portion_list/data/sheets_portions.bin: which number every call gives that solves by rounds, and that a refused one
+              leaves all as it was; of every accepted one the same as of the solved ones, by its own tolerance, that the unknowns of
+              the state lead to the poses, and, where the state is the caller's own, that its rows are those at the poses; how many
+              rounds are done, which run it is and what of the state is carried over, wherever the page says it without the rounds
+              themselves; that by one set and drag the same rounds in other portions leave the same, and end in one state
   written     crates/write_list/data/scenes_written.bin, our second program's: which number every scene gives that is lent for
               saving, and every byte of the sheet of each that is accepted; reading the sheet as laid out gives the number that the
               tests of its records give
   numbers     each number of the table "Numbers", and of the text on solving and freedom, stands in a definition named beside it,
-              and each of the table "Parameters" where these definitions speak of that parameter
+              and each of the table "Parameters", and of a portion, where these definitions speak of it
   names       each definition that the page names stands in the file that it names
   sketches    each sketch that the page shows is there, as tools/sketches.py draws it, and there is no other
 
@@ -46,6 +51,7 @@ ROWS = ROOT / "crates" / "row_list" / "data"
 VECTORS = ROOT / "crates" / "vector_list" / "data"
 SHEETS = ROOT / "crates" / "sheet_list" / "data"
 SCENES = ROOT / "crates" / "write_list" / "data"
+PORTIONS = ROOT / "crates" / "portion_list" / "data"
 
 problems = []
 
@@ -127,15 +133,11 @@ class Group:
 SET = {"tolerance": double, "rounds": int, "rowLimit": int, "dragWeight": double}
 
 
-class Parameter:
-    """A line of the table "Parameters": a range, and the number without a choice."""
+class Range:
+    """What a call may choose, by name: from the least to the most, whole numbers or doubles."""
 
-    def __init__(self, row):
-        self.name, self.row = code(row["parameter"]), row
-        self.whole = SET.get(self.name) is int
-        self.least, self.most, self.plain = ((int if self.whole else float)(row[c]) for c in ("from", "to", "without a choice"))
-        if not self.holds(self.plain):
-            problem(f"{self.name}: the number without a choice is outside its range")
+    def __init__(self, name, whole, least, most):
+        self.name, self.whole, self.least, self.most = name, whole, least, most
 
     def holds(self, value):
         return self.least <= value <= self.most
@@ -148,6 +150,18 @@ class Parameter:
         if self.whole:
             return [self.least - 1, self.most + 1]
         return [math.nextafter(self.least, -math.inf), math.nextafter(self.most, math.inf), NAN]
+
+
+class Parameter(Range):
+    """A line of the table "Parameters": a range, and the number without a choice."""
+
+    def __init__(self, row):
+        name, self.row = code(row["parameter"]), row
+        number = int if SET.get(name) is int else float
+        super().__init__(name, number is int, number(row["from"]), number(row["to"]))
+        self.plain = number(row["without a choice"])
+        if not self.holds(self.plain):
+            problem(f"{self.name}: the number without a choice is outside its range")
 
 
 class Definitions:
@@ -196,8 +210,14 @@ class Definitions:
         if list(self.parameters) != list(SET):
             problem(f"the parameters are not {', '.join(SET)}")
         self.refusal, = self.said(r"a parameter that is a NaN or outside its range is refused by (\d+)\.", "what a parameter outside its range is refused by")
-        if sorted(self.given) != sorted({8, 9, 10, 11, 12, 13, self.refusal}):
+        self.scratch = self.written(r"is lent at least `([^`]+)` doubles of scratch;", "how much scratch there is at least")
+        self.portion = Range("portion", True, *self.said(r"A portion is (\d+ to \d+) rounds\.", "how many rounds a portion has"))
+        self.uncounted, *beside = self.said(r"that is not the sheet's, is refused by (\d+, after \d+ and before \d+);", "what a portion, or a count, is refused by")
+        if sorted(self.given) != sorted({8, 9, 10, 11, 12, 13, self.refusal, self.uncounted}):
             problem(f"the tests of what else a call is given are {self.given}")
+        elif beside != [self.given[self.given.index(self.uncounted) + step] for step in (-1, 1)]:
+            problem(f"{self.uncounted} is said to come after {beside[0]} and before {beside[1]}, and the tests are {self.given}")
+        self.state = State(self)
         self.said(r"\*\*Converged\*\* is (1) where every relation's error is at most the `tolerance` of the call,", "where converged is 1")
         self.saving = Saving(self)
         self.met = Counter()
@@ -218,12 +238,20 @@ class Definitions:
             raise ValueError(f"the page has no part {heading!r}")
         return found.group(1)
 
-    def said(self, pattern, what):
-        """The numbers of a sentence of the page."""
+    def sentence(self, pattern, what):
+        """What the pattern's group is in a sentence of the page."""
         found = re.search(pattern, self.text)
         if not found:
             raise ValueError(f"the page does not say {what}")
-        return [int(n) for n in re.findall(r"\d+", found.group(1))]
+        return found.group(1)
+
+    def said(self, pattern, what):
+        """The numbers of a sentence of the page."""
+        return [int(n) for n in re.findall(r"\d+", self.sentence(pattern, what))]
+
+    def written(self, pattern, what):
+        """The formula of a sentence of the page."""
+        return parsed(self.sentence(pattern, what))
 
     def size(self, name):
         """The bytes that the page gives the record, which its fields fill without a gap."""
@@ -307,6 +335,10 @@ class Definitions:
             out += [(v, group) for v in values]
         return out
 
+    def row_count(self, rel):
+        law, kinds, third, joint = self.kinds(rel)
+        return sum(len(g.rows) for g in self.groups if g.law == law and g.suits(kinds, third, rel["flag"], joint))
+
     def error(self, rel, poses):
         """A relation's error where it is not compared bit for bit; what is met for it does not count."""
         met = self.met.copy(), self.page.met.copy()
@@ -323,7 +355,7 @@ class Definitions:
         for line in list(self.page.lines()) + list(self.gaps.values()) + list(self.readings.values()):
             if not self.page.met[line]:
                 yield line.what
-        for p in self.parameters.values():
+        for p in [*self.parameters.values(), self.portion]:
             yield from (f"a call accepted with the {p.name} {value!r}" for value in p.accepted() if not self.met[p, bits(value)])
             yield from (f"a call refused for the {p.name} {value!r} alone" for value in p.refused() if not self.met[p, bits(value)])
         for part in self.saving.parts:
@@ -361,6 +393,37 @@ class Field:
 
 def read_fields(table):
     return [Field(row) for row in table.rows]
+
+
+# ---- a running state
+
+class State:
+    """The tables of a running state: its numbers, and what stands where among the doubles of `state`."""
+
+    def __init__(self, d):
+        heading = "Solving by rounds"
+        if [code(row["of a running state"]) for row in d.table(heading, "of a running state").rows] != ["unknowns", "rows", "done", "run", "state"]:
+            problem("a running state is not unknowns, rows, done, run and state")
+        self.length = d.written(r"\| `state` \| doubles \| `([^`]+)` of them,", "how many doubles a state has")
+        self.parts = {code(row["of `state`"]): (parsed(code(row["from"])), parsed(code(row["doubles"]))) for row in d.table(heading, "of `state`").rows}
+        if list(self.parts) != ["damping", "x", "first", "r"]:
+            problem("the doubles of a running state are not damping, x, first and r")
+        for n, rows in ((0, 0), (6, 0), (0, 1), (384, 896)):
+            known = {"n": float(n), "R": float(rows)}
+            if [i for part in self.parts for i in self.places(d, part, known)] != list(range(int(d.page.value(self.length, known)))):
+                problem(f"the parts of a state with {n} unknowns and {rows} rows do not fill it in order")
+
+    def needed(self, d, sheet):
+        """How many doubles a state of the sheet has."""
+        return int(d.page.value(self.length, sheet.known))
+
+    def places(self, d, part, known):
+        first, count = (int(d.page.value(tree, known)) for tree in self.parts[part])
+        return range(first, first + count)
+
+    def of(self, d, sheet, memory):
+        """The words of each part."""
+        return {part: [memory[i] for i in self.places(d, part, sheet.known)] for part in self.parts}
 
 
 # ---- how a scene is lent for saving
@@ -840,13 +903,15 @@ class Sheet:
         self.rels = [d.read("Relation", data, header["relations"] + d.sizes["Relation"] * j) for j in range(header["k"])]
         named = {rel[e]["body"] for rel in self.rels for e in "ABS" if d.uses(e, d.numbers["law"][rel["law"]])}
         self.moves = [not body["fixed"] and j in named for j, body in enumerate(self.bodies)]
+        self.unknowns, self.rows = 6 * sum(self.moves), sum(d.row_count(rel) for rel in self.rels)
+        self.known = {"m": float(header["m"]), "n": float(self.unknowns), "R": float(self.rows)}
 
 
 class Compared:
     """How much was compared of the answers of `solve`."""
 
     def __init__(self):
-        self.laws, self.flags, self.still, self.frames = Counter(), Counter(), 0, 0
+        self.laws, self.flags, self.still, self.frames, self.unknowns, self.rows = Counter(), Counter(), 0, 0, 0, 0
 
     def all(self, laws):
         return all(self.laws[law] for law in laws) and self.still and self.frames and self.flags[0] and self.flags[1]
@@ -910,32 +975,41 @@ def compare_answers(d, name, laws):
     print("  relations by law " + ", ".join(f"{law}: {compared.laws[law]}" for law in d.counts if compared.laws[law]))
 
 
-def given_faults(d, sheet, head, chosen, short):
-    """The numbers of the tests that a call of `solve` fails by what it is given beside the sheet; `short` doubles of scratch, or fewer, are too few."""
+def given_faults(d, sheet, head, chosen):
+    """The numbers of the tests that a call of `solve` fails by what it is given beside the sheet."""
     _, drag, scratch, poses, frames, errors = head[:6]
     m, k = len(sheet.bodies), len(sheet.rels)
     pose, frame = (sum(map(len, d.filled[of])) for of in ("pose", "frame"))
     fails = {8: drag != 65535 and drag >= m, d.refusal: not all(p.holds(value) for p, value in chosen.items()),
-             10: poses < pose * m or frames < frame * m or errors < k, 9: scratch <= short}
+             10: poses < pose * m or frames < frame * m or errors < k, 9: scratch < d.page.value(d.scratch, sheet.known)}
     return {number for number, failed in fails.items() if failed}
 
 
-def start_of_run(d, sheet, w):
-    """The poses with each moving body turned by w about its centre: exact for no turn, else as near as sine and cosine are."""
+def turned(v, w):
+    """v turned by the length of w about it."""
     angle = math.hypot(*w)
+    if not angle:
+        return v
+    x, y, z = (c / angle for c in w)
+    along, across = x * v[0] + y * v[1] + z * v[2], (y * v[2] - z * v[1], z * v[0] - x * v[2], x * v[1] - y * v[0])
+    return tuple(v[i] * math.cos(angle) + across[i] * math.sin(angle) + (x, y, z)[i] * along * (1 - math.cos(angle)) for i in range(3))
 
-    def turn(v):
-        if not angle:
-            return v
-        x, y, z = (c / angle for c in w)
-        along, across = x * v[0] + y * v[1] + z * v[2], (y * v[2] - z * v[1], z * v[0] - x * v[2], x * v[1] - y * v[0])
-        return tuple(v[i] * math.cos(angle) + across[i] * math.sin(angle) + (x, y, z)[i] * along * (1 - math.cos(angle)) for i in range(3))
 
-    def moved(body):
-        arm = turn(tuple(o - c for o, c in zip(body["origin"], body["centre"])))
-        return {"x": turn(body["x"]), "y": turn(body["y"]), "z": turn(body["z"]), "origin": tuple(c + a for c, a in zip(body["centre"], arm))}
+def poses_at(d, sheet, unknowns):
+    """The poses with each moving body turned about its centre and then slid, by six unknowns each: exact for none, else as near as sine and cosine are."""
+    rest, poses = list(unknowns), []
+    for body, moves in zip(sheet.bodies, sheet.moves):
+        if moves:
+            slide, w, rest = rest[:3], rest[3:6], rest[6:]
+            arm = turned(tuple(o - c for o, c in zip(body["origin"], body["centre"])), w)
+            body = {**{axis: turned(body[axis], w) for axis in "xyz"}, "origin": tuple(c + a + s for c, a, s in zip(body["centre"], arm, slide))}
+        poses.append(d.pose(body))
+    return poses
 
-    return [d.pose(moved(body) if moves else body) for body, moves in zip(sheet.bodies, sheet.moves)]
+
+def start_of_run(d, sheet, w):
+    """The poses with each moving body turned by w about its centre."""
+    return poses_at(d, sheet, [0.0, 0.0, 0.0, *w] * sum(sheet.moves))
 
 
 def near(poses, others):
@@ -943,9 +1017,15 @@ def near(poses, others):
     return all(abs(x - y) <= 1e-9 for p, q in zip(poses, others) for part in p for x, y in zip(p[part], q[part]))
 
 
+def what_has_a_say(sheet, chosen, drag):
+    """The set and the drag, but for a drag and a drag weight that change no weight."""
+    *others, weight = chosen.values()
+    return *others, (drag, weight) if drag != 65535 and sheet.moves[drag] and weight != 1 else None
+
+
 def compare_chosen(d, where, sheet, head, chosen, answer, compared, alike):
     """An accepted answer by what its call chose, and beside those before it on the same sheet, `alike`, where all that has a say is the same. Gives, of each kind of answer that the list must have, whether it is one."""
-    tolerance, rounds, limit, weight = chosen.values()
+    tolerance, _, limit, _ = chosen.values()
     poses, rows = compare_answer(d, where, sheet, answer, tolerance, compared)
     flag, worst, plain = struct.unpack_from("<Q", answer, 8)[0], largest([largest(r) for r in rows]), d.parameters["tolerance"].plain
     first, slight = start_of_run(d, sheet, (0.0, 0.0, 0.0)), start_of_run(d, sheet, d.values("slightTurn"))
@@ -958,7 +1038,7 @@ def compare_chosen(d, where, sheet, head, chosen, answer, compared, alike):
     if over and not (at_first or at_slight):
         problem(f"{where}: {count} rows are over the row limit, and the answer is not at the start of a run")
     dragged = head[1] != 65535 and sheet.moves[head[1]]
-    before, was_dragged = alike.setdefault((tolerance, rounds, limit, (head[1], weight) if dragged and weight != 1 else None), (answer, dragged))
+    before, was_dragged = alike.setdefault(what_has_a_say(sheet, chosen, head[1]), (answer, dragged))
     if answer != before:
         problem(f"{where}: a call before it has the same parameters and weights, and another answer")
     return {
@@ -975,18 +1055,17 @@ def compare_chosen(d, where, sheet, head, chosen, answer, compared, alike):
 
 
 def compare_parameters(d):
-    """sheets_parameters.bin: the number that each call gives by the page's order of tests, and what an accepted one answers. How much scratch is short is left to the list."""
+    """sheets_parameters.bin: the number that each call gives by the page's order of tests, and what an accepted one answers."""
     name, compared, numbers, both, kinds, count = "sheets_parameters.bin", Compared(), Counter(), Counter(), Counter(), 0
     order = [n for n in d.given if n in (8, d.refusal, 10, 9)]
     number_of = lambda answer: struct.unpack_from("<Q", answer)[0]
     for i, (data, calls) in enumerate(sheets_of(SHEETS / name)):
         own = sheet_fault(d, data)
         sheet, alike = None if own else Sheet(d, data), {}
-        short = max((head[2] for head, answer in calls if number_of(answer) == 9), default=-1)
         for j, (head, answer) in enumerate(calls):
             where, number, count = f"{name}, sheet {i}, call {j}", number_of(answer), count + 1
             chosen = {p: SET[p.name](word) for p, word in zip(d.parameters.values(), head[6:], strict=True)}
-            faults = {own} if own else given_faults(d, sheet, head, chosen, short)
+            faults = {own} if own else given_faults(d, sheet, head, chosen)
             mine = own or next((n for n in order if n in faults), 0)
             if mine != number:
                 problem(f"{where}, {', '.join(f'{p.name} {value!r}' for p, value in chosen.items())}: {mine} by the page and {number} in the list")
@@ -1011,6 +1090,203 @@ def compare_parameters(d):
     said = ", ".join(f"{n}: {numbers[n]}" for n in sorted(numbers))
     print(f"parameters: {sum(numbers.values())} of {count} calls as in {name}, by number {said}; {compared}")
     print("  answers by kind " + ", ".join(f"{kind}: {kinds[kind]}" for kind in kinds))
+    print("  relations by law " + ", ".join(f"{law}: {compared.laws[law]}" for law in d.counts))
+
+
+# the kinds of calls that solve by rounds which the list must have
+KINDS = [
+    "begun within the tolerance", "begun where nothing moves", "begun over the row limit", "begun, in the first run", "begun, in the retry", "begun and finished",
+    "the first run gone on with", "the retry gone on with", "a run gone on with over the row limit", "the retry begun", "the first run gone on with and finished",
+    "the retry gone on with and finished", "finished with the first run's unknowns", "the first run judged within the tolerance", "the retry judged within the tolerance",
+    "the first run judged with its rounds done", "the retry judged with its rounds done", "finished before", "finished before by another byte", "one's own by another set or drag",
+    "another's state", "the same in other portions", "refused for the portion alone", "refused for the unknowns alone", "refused for the rows alone", "refused for the state alone",
+]
+
+
+class Held:
+    """What a caller holds of a running state: the rounds done, the run, and the words of the state's memory."""
+
+    def __init__(self, done, run, memory):
+        self.done, self.run, self.memory = done, run, memory
+
+
+class Portion:
+    """A call that solves by rounds: what it is given, and what it leaves."""
+
+    def __init__(self, d, calls):
+        self.goes_on, self.drag, *chosen = calls.words(2 + len(SET))
+        self.chosen = {p: SET[p.name](word) for p, word in zip(d.parameters.values(), chosen, strict=True)}
+        self.tolerance, self.rounds, self.limit, _ = self.chosen.values()
+        self.portion, *self.counts = calls.words(3)
+        self.state, *self.lent = calls.words(5)
+        given = calls.word()
+        self.given = Held(*calls.words(2), calls.words(given)) if given else None
+        answer = calls.words(calls.word())
+        self.number, *self.counts_left, self.done, self.run, self.flag = answer[:6]
+        self.memory, self.filled = answer[6:6 + self.state], answer[6 + self.state:]
+
+    def keeps(self, held):
+        """Whether all is as it was; before a call the flag is 77."""
+        left = [self.counts_left, self.done, self.run, self.memory, self.flag, self.filled]
+        return left == [self.counts, held.done, held.run, held.memory[:self.state], 77, []]
+
+
+class Ours:
+    """A state of the caller's own: in which portions it came to be, and by which set and drag, or None where they changed."""
+
+    def __init__(self, by, portions):
+        self.by, self.portions = by, portions
+
+    def gone_on(self, by, portion):
+        return Ours(by if by == self.by else None, self.portions + [portion])
+
+
+def schedules_of(d, path):
+    """Each sheet with its schedules of calls that solve by rounds."""
+    sheets = List(path)
+    for _ in range(sheets.count):
+        length = sheets.word()
+        sheet = sheets.bytes((length + 7) // 8 * 8)[:length]
+        yield sheet, [[Portion(d, sheets) for _ in range(sheets.word())] for _ in range(sheets.word())]
+    sheets.whole(sheets.count)
+
+
+def portion_faults(d, sheet, call):
+    """The numbers of the tests that a call fails by what it is given beside the sheet, and which of the portion, the counts and the state is at fault where it is alone."""
+    given = given_faults(d, sheet, [None, call.drag, *call.lent], call.chosen)
+    new = [] if d.portion.holds(call.portion) else [d.portion.name]
+    new += [name for name, count in zip(("unknowns", "rows"), call.counts) if call.goes_on and count != getattr(sheet, name)]
+    faults = given | {d.uncounted for _ in new}
+    if call.state < d.state.needed(d, sheet):
+        faults, new = faults | {10}, new + ["state"]
+    return faults, new[0] if len(new) == 1 and not given else None
+
+
+def begun(d, sheet, call, now):
+    """What a call that begins is, and whether it leaves what the page says of it."""
+    zeros, slight = ([bits(v) for v in [0.0, 0.0, 0.0, *w]] * sum(sheet.moves) for w in ((0.0, 0.0, 0.0), d.values("slightTurn")))
+    no_round = [bits(v) for v in d.values("fresh")] == now["damping"] and (call.run, call.done, now["first"]) == (3, 0, zeros)
+    start = start_of_run(d, sheet, (0.0, 0.0, 0.0))
+    if all(d.error(rel, start) <= call.tolerance for rel in sheet.rels):
+        return "begun within the tolerance", no_round and now["x"] == zeros
+    if not sheet.unknowns:
+        return "begun where nothing moves", no_round
+    if sheet.rows > call.limit:
+        return "begun over the row limit", no_round and now["x"] in (zeros, slight)
+    if call.run == 1:
+        return "begun, in the first run", call.done == call.portion and now["first"] == zeros
+    return ("begun, in the retry", call.done < call.portion) if call.run == 2 else ("begun and finished", call.done <= call.portion)
+
+
+def gone_on(d, sheet, call, held, was, now):
+    """The same of a call that goes on; `was` and `now` are the parts of the state before and after it."""
+    stays = call.done == held.done and all(now[part] == was[part] for part in ("damping", "x", "first"))
+    if held.run not in (1, 2):
+        return "finished before" if held.run == 3 else "finished before by another byte", call.run == 3 and stays and now["r"] == was["r"]
+    run = "the first run" if held.run == 1 else "the retry"
+    if largest([double(word) for word in was["r"]]) <= call.tolerance:
+        return f"{run} judged within the tolerance", call.run == 3 and stays
+    if held.done >= call.rounds or sheet.rows > d.values("judge")[0]:
+        if held.run == 1 and sheet.unknowns:
+            return f"{run} judged with its rounds done", call.run != 1 and call.done <= call.portion and now["first"] == was["x"]
+        kept = now["x"] in (was["x"], was["first"]) and all(now[part] == was[part] for part in ("damping", "first"))
+        return f"{run} judged with its rounds done", call.run == 3 and call.done == held.done and kept
+    over = sheet.rows > call.limit
+    if call.run == held.run:
+        kind, good = f"{run} gone on with", call.done == held.done + call.portion and now["first"] == was["first"]
+    elif call.run == 2:
+        kind, good = "the retry begun", call.done < call.portion and not over
+    else:
+        kind = "finished with the first run's unknowns" if now["x"] == now["first"] != was["x"] else f"{run} gone on with and finished"
+        good = call.run == 3 and (held.done < call.done <= held.done + call.portion or held.run == 1 and call.done < (1 if over else call.portion))
+    return "a run gone on with over the row limit" if over else kind, good
+
+
+def compare_state(d, where, sheet, call, held, ours, answer, compared):
+    """An accepted call: its answer, and what it leaves of the state as far as the page tells it without the rounds themselves. Gives what kind of call it is."""
+    poses, rows = compare_answer(d, where, sheet, answer, call.tolerance, compared)
+    was, now = (d.state.of(d, sheet, memory) for memory in (held.memory, call.memory))
+    kind, good = gone_on(d, sheet, call, held, was, now) if call.goes_on else begun(d, sheet, call, now)
+    if not good or call.counts_left != [sheet.unknowns, sheet.rows] or call.run not in (1, 2, 3):
+        problem(f"{where}, {kind}: the state that is left is not the page's")
+    rest = d.state.needed(d, sheet)
+    if call.memory[rest:] != held.memory[rest:call.state]:
+        problem(f"{where}, {kind}: what stands past the state is not kept")
+    x, r = ([double(word) for word in now[part]] for part in ("x", "r"))
+    if call.run != 3 and (largest(r) <= call.tolerance or call.done >= call.rounds):
+        problem(f"{where}, {kind}: the run that is left has ended by the set of the call")
+    if all(abs(v) <= 1000 for v in x):
+        compared.unknowns += len(x)
+        if not near(poses, poses_at(d, sheet, x)):
+            problem(f"{where}, {kind}: the unknowns do not lead to the poses")
+    if ours:
+        compared.rows += len(r)
+        if not same([v for own in rows for v in own], r):
+            problem(f"{where}, {kind}: the rows are not those at the poses")
+        if ours.by and sum(ours.portions) >= 2 * call.rounds and call.run != 3:
+            problem(f"{where}, {kind}: twice the rounds of a run are made, and it is not finished")
+    return kind
+
+
+def compare_sums(where, call, ours, left, alike):
+    """By one set and drag the same rounds in other portions leave the same, and so do all that finish. Gives whether there are any."""
+    other = False
+    for key in [(ours.by, sum(ours.portions))] + [(ours.by, "finished")] * (call.run == 3):
+        portions, before = alike.setdefault(key, (ours.portions, left))
+        other |= portions != ours.portions
+        if before != left:
+            problem(f"{where}: the same set and drag leave something else in other portions")
+    return other
+
+
+def compare_portions(d):
+    """sheets_portions.bin: the number that each call gives by the page's order of tests, and what an accepted one leaves."""
+    name, compared, numbers, both, kinds, count = "sheets_portions.bin", Compared(), Counter(), Counter(), Counter(), 0
+    order = [n for n in d.given if n in (8, d.refusal, d.uncounted, 10, 9)]
+    for i, (data, schedules) in enumerate(schedules_of(d, PORTIONS / name)):
+        own = sheet_fault(d, data)
+        sheet, alike = None if own else Sheet(d, data), {}
+        for j, calls in enumerate(schedules):
+            held = ours = None
+            for h, call in enumerate(calls):
+                where, count = f"{name}, sheet {i}, schedule {j}, call {h}", count + 1
+                if call.given:
+                    held, ours = call.given, None
+                faults, alone = ({own}, None) if own else portion_faults(d, sheet, call)
+                mine = own or next((n for n in order if n in faults), 0)
+                if mine != call.number:
+                    problem(f"{where}: {mine} by the page and {call.number} in the list")
+                    break
+                numbers[mine] += 1
+                both.update(pair for pair in zip(order, order[1:]) if faults >= set(pair))
+                if not mine or alone == d.portion.name:
+                    d.met[d.portion, bits(float(call.portion))] += 1
+                if mine:
+                    kinds.update([f"refused for the {alone} alone"] if alone else [])
+                    if not call.keeps(held):
+                        problem(f"{where}: it is refused, and not all is as it was")
+                    continue
+                by = what_has_a_say(sheet, call.chosen, call.drag)
+                ours = Ours(by, [call.portion]) if not call.goes_on else ours and ours.gone_on(by, call.portion)
+                answer = struct.pack(f"<{2 + len(call.filled)}Q", 0, call.flag, *call.filled)
+                kinds[compare_state(d, where, sheet, call, held, ours, answer, compared)] += 1
+                if ours and ours.by:
+                    left = call.done, call.run, call.memory[:d.state.needed(d, sheet)], answer
+                    kinds["the same in other portions"] += compare_sums(where, call, ours, left, alike)
+                kinds["one's own by another set or drag"] += ours is not None and ours.by is None
+                kinds["another's state"] += ours is None
+                held = Held(call.done, call.run, call.memory + held.memory[call.state:])
+    if not compared.all(d.counts) or not (compared.rows and compared.unknowns) or not all(numbers[n] for n in [0] + order):
+        problem(f"{name}: not all was compared")
+    for pair in zip(order, order[1:]):
+        if not both[pair]:
+            problem(f"{name}: no call fails by {pair[0]} and by {pair[1]}")
+    for kind in KINDS:
+        if not kinds[kind]:
+            problem(f"{name}: no call {kind}")
+    said = ", ".join(f"{n}: {numbers[n]}" for n in sorted(numbers))
+    print(f"portions: {sum(numbers.values())} of {count} calls as in {name}, by number {said}; {compared}; {compared.unknowns} unknowns that lead to the poses, {compared.rows} rows of one's own states")
+    print("  calls by kind " + ", ".join(f"{kind}: {kinds[kind]}" for kind in KINDS))
     print("  relations by law " + ", ".join(f"{law}: {compared.laws[law]}" for law in d.counts))
 
 
@@ -1110,6 +1386,11 @@ def compare_numbers(d):
             named = [texts.get(name, "") for name in re.findall(r"\b[A-Z]{2,}\b", " ".join(pieces))]
             if not any(stands(p.row[column], text) for text in pieces + named):
                 problem(f"{p.name}: {p.row[column]}, {column}, does not stand where the definitions speak of it")
+    text = cited("portionFits", "crates/refusals/specs/Refusals.antt") or ""
+    for value in (d.portion.least, d.portion.most):
+        count += 1
+        if not stands(str(value), text):
+            problem(f"portion: {value} does not stand where the definitions speak of it")
     told = 0
     for item in re.findall(r"^- .*(?:\n  .*)*", d.section("Solving") + d.section("Freedom"), re.M):
         texts = list(filter(None, (cited(name, file) for names, file in CITED.findall(item) for name in re.findall(r"`([\w-]+)`", names))))
@@ -1148,7 +1429,7 @@ def main():
     path = pathlib.Path(sys.argv[1]) if len(sys.argv) == 2 else ROOT / "docs" / "DEFINITIONS.md"
     try:
         d = Definitions(path.read_text(encoding="utf-8"))
-        for compare in (compare_rows, compare_functions, compare_readings, compare_fields, compare_refused, compare_solved, compare_parameters, compare_written, compare_numbers, compare_names, compare_sketches):
+        for compare in (compare_rows, compare_functions, compare_readings, compare_fields, compare_refused, compare_solved, compare_parameters, compare_portions, compare_written, compare_numbers, compare_names, compare_sketches):
             compare(d)
         for what in d.unmet():
             problem(f"met by nothing in the lists: {what}")

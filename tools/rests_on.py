@@ -21,6 +21,8 @@ CALLS = [
     ("sheet_snap", "sheet/src/calls.rt"),
     ("sheet_solve", "sheet/src/solving.rt"),
     ("sheet_solve_with", "sheet/src/solving.rt"),
+    ("sheet_solve_begin", "sheet/src/going.rt"),
+    ("sheet_solve_on", "sheet/src/going.rt"),
     ("sheet_dof", "sheet/src/freedoms.rt"),
     ("sheet_write", "sheet/src/saving.rt"),
     ("save", "saving/src/save.rt"),
