@@ -65,8 +65,8 @@ end-retry-at sc converged st true h = rw h
 end-retry-at sc converged st false h = rw h
 
 -- what goes by value, finished
-abbrev pub over : GoingStruct → GoingStruct
-over g = record { mu = g .mu; done = g .done; run = 3 }
+abbrev pub atEnd : GoingStruct → GoingStruct
+atEnd g = record { mu = g .mu; done = g .done; run = 3 }
 
 module _ (sc : Scene) (c : SceneStruct) (p : PartsStruct) (s t : List Float) (g : GoingStruct) (converged kept : Bool) (at : Arranged c p (length s)) (b : Better sc c p s t converged kept) where
   choice-part : (o k : ℕ) → o + k ≤ p .ahead → part t o k ≡ part s o k
@@ -84,19 +84,19 @@ module _ (sc : Scene) (c : SceneStruct) (p : PartsStruct) (s t : List Float) (g 
         size = b .size;
       }
 
-  pub retry-stays : (u : List Float) (h : GoingStruct) → kept ≡ true → Went c p t u h (worked sc (runningIn c p t (over g))) → Went c p s u h (endRetry sc converged (runningIn c p s g))
+  pub retry-stays : (u : List Float) (h : GoingStruct) → kept ≡ true → Went c p t u h (worked sc (runningIn c p t (atEnd g))) → Went c p s u h (endRetry sc converged (runningIn c p s g))
   retry-stays u h k w =
       let x = choice-part (p .x) (c .n) (omega arith) in
       let first = choice-part (p .first) (c .n) (omega arith) in
-      let e : worked sc (runningIn c p t (over g)) ≡ ended sc (runningIn c p s g) (unknownsIn c p s) = λ z. record { x = x z; first = first z; r = rowsOf sc (x z); mu = g .mu; done = g .done; run = 3 } in
+      let e : worked sc (runningIn c p t (atEnd g)) ≡ ended sc (runningIn c p s g) (unknownsIn c p s) = λ z. record { x = x z; first = first z; r = rowsOf sc (x z); mu = g .mu; done = g .done; run = 3 } in
       went-then c p s t u g h _ _ _ choice-leaves w (e ∙ end-retry-at sc converged (runningIn c p s g) true (sym (b .told) ∙ k))
 
-  pub retry-goes : (u v : List Float) (h : GoingStruct) → kept ≡ false → Copied t u (p .first) (p .x) (c .n) → Went c p u v h (worked sc (runningIn c p u (over g)))
+  pub retry-goes : (u v : List Float) (h : GoingStruct) → kept ≡ false → Copied t u (p .first) (p .x) (c .n) → Went c p u v h (worked sc (runningIn c p u (atEnd g)))
       → Went c p s v h (endRetry sc converged (runningIn c p s g))
   retry-goes u v h k d w =
       let x : unknownsIn c p u ≡ firstIn c p s = d .copy ∙ choice-part (p .first) (c .n) (omega arith) in
       let first : firstIn c p u ≡ firstIn c p s = kept-part-below t u (p .x) (p .x + c .n) (p .first) (c .n) (at .first) (d .kept) ∙ choice-part (p .first) (c .n) (omega arith) in
-      let e : worked sc (runningIn c p u (over g)) ≡ ended sc (runningIn c p s g) (firstIn c p s) = λ z. record { x = x z; first = first z; r = rowsOf sc (x z); mu = g .mu; done = g .done; run = 3 } in
+      let e : worked sc (runningIn c p u (atEnd g)) ≡ ended sc (runningIn c p s g) (firstIn c p s) = λ z. record { x = x z; first = first z; r = rowsOf sc (x z); mu = g .mu; done = g .done; run = 3 } in
       record {
         running = w .running ∙ e ∙ end-retry-at sc converged (runningIn c p s g) false (sym (b .told) ∙ k);
         weights = w .weights ∙ kept-part-above t u (p .x) (p .x + c .n) (p .weights) (c .n) (omega arith) (d .kept) ∙ choice-part (p .weights) (c .n) (omega arith);
@@ -106,16 +106,16 @@ module _ (sc : Scene) (c : SceneStruct) (p : PartsStruct) (s t : List Float) (g 
 -- ---- the retry begins
 
 -- what goes by value, about to begin
-abbrev pub begins : ℕ → GoingStruct
-begins run = record { mu = ofBits binary64 0x3DDB_7CDF_D9D7_BDBB; done = 0; run = run }
+abbrev pub atBegin : ℕ → GoingStruct
+atBegin run = record { mu = ofBits binary64 0x3DDB_7CDF_D9D7_BDBB; done = 0; run = run }
 
 pub turned-is : (sc : Scene) (c : SceneStruct) (p : PartsStruct) (s t u v : List Float) (g : GoingStruct) → c .n ≡ unknowns sc → Arranged c p (length s) → Copied s t (p .x) (p .first) (c .n)
-    → Put t u (p .x) (c .n) (listOf slightTurn (c .n)) → Went c p u v g (worked sc (runningIn c p u (begins 2)))
+    → Put t u (p .x) (c .n) (listOf slightTurn (c .n)) → Went c p u v g (worked sc (runningIn c p u (atBegin 2)))
     → Went c p s v g (fresh sc 2 (unknownsIn c p s) (listOf slightTurn (unknowns sc)))
 turned-is sc c p s t u v g n at d y w =
     let x : unknownsIn c p u ≡ listOf slightTurn (unknowns sc) = y .holds ∙ ap (listOf slightTurn) n in
     let first : firstIn c p u ≡ unknownsIn c p s = kept-part-below t u (p .x) (p .x + c .n) (p .first) (c .n) (at .first) (y .kept) ∙ d .copy in
-    let e : worked sc (runningIn c p u (begins 2)) ≡ fresh sc 2 (unknownsIn c p s) (listOf slightTurn (unknowns sc))
+    let e : worked sc (runningIn c p u (atBegin 2)) ≡ fresh sc 2 (unknownsIn c p s) (listOf slightTurn (unknowns sc))
     = λ z. record { x = x z; first = first z; r = rowsOf sc (x z); mu = ofBits binary64 0x3DDB_7CDF_D9D7_BDBB; done = 0; run = 2 } in
     record {
       running = w .running ∙ e;

@@ -25,7 +25,7 @@ use Rattle.portions.specs.Laws.{Settled}
 use Rattle.portions.proofs.PortionLaws.{counts, or-left, or-right, more-settled, go-stays, go-more, go-none}
 use Rattle.by_rounds.specs.Running.{runningIn, worked, Went, Stands}
 use Rattle.by_rounds.specs.declared.ends.Going.{Going as GoingStruct}
-use Rattle.by_rounds.proofs.EndLaws.{begins, row-count-is}
+use Rattle.by_rounds.proofs.EndLaws.{atBegin, row-count-is}
 
 -- ---- one round more
 
@@ -131,13 +131,13 @@ ready-gone sc c p q s t u g h a b winv portion x w e =
 -- begun, the rows of the first unknowns worked
 pub begun-is : (sc : Scene) (c : SceneStruct) (p : PartsStruct) (q : Parameters) (drag : Option ℕ) (s t u v w : List Float) (g : GoingStruct) → c .n ≡ unknowns sc → Arranged c p (length s)
     → Put s t (p .weights) (c .n) (map inverseWeight (weights sc (q .dragWeight) drag)) → Put t u (p .x) (c .n) (listOf startAt (c .n)) → Put u v (p .first) (c .n) (listOf startAt (c .n))
-    → Went c p v w g (worked sc (runningIn c p v (begins 1)))
+    → Went c p v w g (worked sc (runningIn c p v (atBegin 1)))
     → let zeros = listOf startAt (unknowns sc) in Ready c p s w g (fresh sc 1 zeros zeros) (inverseWeights sc q drag)
 begun-is sc c p q drag s t u v w g n at a b d y =
     let zeros = listOf startAt (unknowns sc) in
     let x : unknownsIn c p v ≡ zeros = kept-part-above u v (p .first) (p .first + c .n) (p .x) (c .n) (at .first) (d .kept) ∙ b .holds ∙ ap (listOf startAt) n in
     let first : firstIn c p v ≡ zeros = d .holds ∙ ap (listOf startAt) n in
-    let e : worked sc (runningIn c p v (begins 1)) ≡ fresh sc 1 zeros zeros
+    let e : worked sc (runningIn c p v (atBegin 1)) ≡ fresh sc 1 zeros zeros
     = λ z. record { x = x z; first = first z; r = rowsOf sc (x z); mu = ofBits binary64 0x3DDB_7CDF_D9D7_BDBB; done = 0; run = 1 } in
     record {
       running = y .running ∙ e;

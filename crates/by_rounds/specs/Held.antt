@@ -1,9 +1,9 @@
 -- What a call by rounds leaves in the caller's memory: the running state, and the answer for its unknowns in the slices that `solve` fills. A longer slice keeps its rest.
 -- specs/State.antt says how a state stands there. Document 02, 6/14. Definitions only.
-use Prim.Native.Nat.{_+_, _*_}
+use Prim.Native.Nat.{_+_, _*_, _≤_}
 use mathlib.Core.Path.{_≡_}
 use mathlib.Core.List.{List, _∷_, _++_}
-use lib.ListN.{getD, drop}
+use lib.ListN.{length, getD, drop}
 use lib.Ieee.{Float, nan}
 use Rattle.least_squares.specs.Memory.{part}
 use Rattle.scene.specs.Scene.{posesDoubles}
@@ -15,6 +15,15 @@ use Rattle.placement.specs.Answer.{framesDoubles}
 use Rattle.portions.specs.Portions.{Running, answerAt}
 use Rattle.by_rounds.specs.State.{stateSize, stateDoubles}
 use Rattle.by_rounds.specs.declared.held.Reached.{Reached as ReachedStruct}
+
+-- what is lent is long enough for the state and for what `solve` fills, of a scene within the sheet's limits
+pub record Room (c : SceneStruct) (state poses frames errors : List Float) : Type 0 where
+  pub row-limit : c .rows ≤ 896
+  pub unknown-limit : c .n ≤ 384
+  pub state-long : stateSize (c .n) (c .rows) ≤ length state
+  pub poses-long : 12 * c .m ≤ length poses
+  pub frames-long : 12 * c .m ≤ length frames
+  pub errors-long : c .k ≤ length errors
 
 -- the state in the scratch s is put to the caller's slice; the parts stand where the next call finds them
 pub record HeldPut (c : SceneStruct) (p : PartsStruct) (s : List Float) (mu : Float) (state state' : List Float) : Type 0 where

@@ -2,7 +2,7 @@
 
 ghost use mathlib.Core.Path.{_≡_};
 ghost use mathlib.Core.Bool.{true};
-ghost use Prim.Native.Nat.{_+_, _*_, _≤_};
+ghost use Prim.Native.Nat.{_≤_};
 ghost use lib.ListN.{length};
 ghost use Rattle.relations.specs.Model.{bodyNumber};
 ghost use Rattle.scene.specs.Scene.{Laid, sceneOf, parametersOf};
@@ -35,13 +35,9 @@ pub fn solve_begin(
     errors: &mut [f64],
 ) -> Reached
     requires { ⌜ Laid (now sheet) scene ⌝ }
-    requires { ⌜ (scene .rows ≤ 896) × (scene .n ≤ 384) ⌝ }
     requires { ⌜ definitions.inRange (parametersOf q) ≡ true ⌝ }
     requires { ⌜ need scene ≤ length (now s) ⌝ }
-    requires { ⌜ 1 + 2 * scene .n + scene .rows ≤ length (now state) ⌝ }
-    requires { ⌜ 12 * scene .m ≤ length (now poses) ⌝ }
-    requires { ⌜ 12 * scene .m ≤ length (now frames) ⌝ }
-    requires { ⌜ scene .k ≤ length (now errors) ⌝ }
+    requires { ⌜ held.Room scene (now state) (now poses) (now frames) (now errors) ⌝ }
     ensures { λ e. ⌜ held.Left (sceneOf (now (sheet .entry)) scene) (parametersOf q) scene (portions.begin (sceneOf (now (sheet .entry)) scene) (parametersOf q) (bodyNumber drag) portion) (now (state .entry)) (now (state .exit)) (now (poses .entry)) (now (poses .exit)) (now (frames .entry)) (now (frames .exit)) (now (errors .entry)) (now (errors .exit)) e ⌝ }
 {
     let p = solve_parts(scene);
@@ -65,13 +61,9 @@ pub fn solve_on(
     errors: &mut [f64],
 ) -> Reached
     requires { ⌜ Laid (now sheet) scene ⌝ }
-    requires { ⌜ (scene .rows ≤ 896) × (scene .n ≤ 384) ⌝ }
     requires { ⌜ definitions.inRange (parametersOf q) ≡ true ⌝ }
     requires { ⌜ need scene ≤ length (now s) ⌝ }
-    requires { ⌜ 1 + 2 * scene .n + scene .rows ≤ length (now state) ⌝ }
-    requires { ⌜ 12 * scene .m ≤ length (now poses) ⌝ }
-    requires { ⌜ 12 * scene .m ≤ length (now frames) ⌝ }
-    requires { ⌜ scene .k ≤ length (now errors) ⌝ }
+    requires { ⌜ held.Room scene (now state) (now poses) (now frames) (now errors) ⌝ }
     ensures { λ e. ⌜ held.Left (sceneOf (now (sheet .entry)) scene) (parametersOf q) scene (portions.on (sceneOf (now (sheet .entry)) scene) (parametersOf q) (bodyNumber drag) portion (state_spec.heldIn (scene .n) (scene .rows) done run (now (state .entry)))) (now (state .entry)) (now (state .exit)) (now (poses .entry)) (now (poses .exit)) (now (frames .entry)) (now (frames .exit)) (now (errors .entry)) (now (errors .exit)) e ⌝ }
 {
     let p = solve_parts(scene);

@@ -164,7 +164,7 @@ pub fn judged(
 }
 
 // Whether a run that a call goes on with has made as many rounds as the call allows, or more; with over 800 rows no set begins a run.
-fn over(scene: Scene, q: Parameters, done: u32) -> bool
+fn is_over(scene: Scene, q: Parameters, done: u32) -> bool
     ensures { λ r. ⌜ r ≡ (leb (q .rounds) done || ltb 800 (scene .rows)) ⌝ }
 {
     if scene.rows > 800 {
@@ -187,7 +187,7 @@ pub fn judge(
     ensures { λ r. ⌜ spec.Went scene p (now (s .entry)) (now (s .exit)) r (portions.judge (sceneOf (now (sheet .entry)) scene) (parametersOf q) (spec.runningIn scene p (now (s .entry)) g)) ⌝ }
 {
     if is_running(g.run) {
-        let stop = over(scene, q, g.done);
+        let stop = is_over(scene, q, g.done);
         return judged(sheet, scene, s, p, q, stop, g);
     }
     g

@@ -102,11 +102,7 @@ pub fn put_reached(
 ) -> Reached
     requires { ⌜ Laid (now sheet) scene ⌝ }
     requires { ⌜ Arranged scene p (length (now s)) ⌝ }
-    requires { ⌜ (scene .rows ≤ 896) × (scene .n ≤ 384) ⌝ }
-    requires { ⌜ 1 + 2 * scene .n + scene .rows ≤ length (now state) ⌝ }
-    requires { ⌜ 12 * scene .m ≤ length (now poses) ⌝ }
-    requires { ⌜ 12 * scene .m ≤ length (now frames) ⌝ }
-    requires { ⌜ scene .k ≤ length (now errors) ⌝ }
+    requires { ⌜ held.Room scene (now state) (now poses) (now frames) (now errors) ⌝ }
     ensures { λ e. ⌜ held.Left (sceneOf (now (sheet .entry)) scene) (parametersOf q) scene (spec.runningIn scene p (now (s .entry)) g) (now (state .entry)) (now (state .exit)) (now (poses .entry)) (now (poses .exit)) (now (frames .entry)) (now (frames .exit)) (now (errors .entry)) (now (errors .exit)) e ⌝ }
 {
     let run = g.run;

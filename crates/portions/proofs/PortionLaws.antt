@@ -2,7 +2,7 @@
 use Prim.Native.Nat.{ℕ, zero, suc, _+_, _≤_}
 use native.Mathlib.Omega.{arith}
 use mathlib.Core.Path.{_≡_, refl, sym, ap, _∙_}
-use mathlib.Core.Bool.{Bool, true, false, not, _&&_, _||_, true≢false}
+use mathlib.Core.Bool.{Bool, true, false, not, _&&_, _||_, cond, true≢false}
 use mathlib.Core.List.{List, [], _∷_}
 use mathlib.Core.Option.{Option}
 use lib.Dec.{eqb, leb, ltb}
@@ -12,7 +12,7 @@ use Rattle.least_squares.specs.Lm.{listOf, norm2, oneRound}
 use Rattle.scene.specs.Solve.{Scene, Parameters, fromTo, FINEST, COARSEST, inRange, unknowns, rowsOf, slightTurn}
 use Rattle.closeness.proofs.HowCloselyLaws.{picked}
 use Rattle.portions.specs.Portions.{Running, isRunning, finished, rowCount, within, fresh, noRound, endRetry, beginRetry, endRun, judged, judge, oneMore, go, start, inverseWeights, begin, on}
-use Rattle.portions.specs.Laws.{Settled, onAll, total, Portions, Schedules, PortionsOn, FinishedStays, JudgesToTheEnd, roundsMade, AtMostThePortion}
+use Rattle.portions.specs.Laws.{Settled, onAll, total, Portions, Schedules, PortionsOn, FinishedStays, JudgesToTheEnd, more, roundsMade, FewRounds, AtMostThePortion}
 
 -- ---- tests
 
@@ -184,10 +184,23 @@ module _ (s : Scene) (p : Parameters) where
     pub go-on : Counts p → (k l : ℕ) (st : Running) → Settled s p st → go s p winv l (judge s p (go s p winv k st)) ≡ go s p winv (k + l) st
     go-on n k l st g = ap (go s p winv l) (settled (go s p winv k st) (go-settled n winv k st g)) ∙ sym (go-add k l st)
 
-    at-most : (k : ℕ) (st : Running) → roundsMade s p winv k st ≤ k
+    made : (k : ℕ) (st : Running) → go s p winv k st ≡ more s p winv (roundsMade s p winv k st) st
+    unfolding go more roundsMade
+    made zero st = refl
+    made (suc k) st = both (made k (oneMore s p winv st)) (isRunning (st .run))
+      where
+        both : go s p winv k (oneMore s p winv st) ≡ more s p winv (roundsMade s p winv k (oneMore s p winv st)) (oneMore s p winv st) → (b : Bool)
+            → cond b (go s p winv k (oneMore s p winv st)) st ≡ more s p winv (cond b (suc (roundsMade s p winv k (oneMore s p winv st))) 0) st
+        both next true = next
+        both next false = refl
+
+    few : (k : ℕ) (st : Running) → roundsMade s p winv k st ≤ k
     unfolding roundsMade
-    at-most zero st = omega arith
-    at-most (suc k) st = let h = at-most k (oneMore s p winv st) in picked (λ (j : ℕ). j ≤ suc k) (isRunning (st .run)) _ _ (λ e. omega arith) (λ e. omega arith)
+    few zero st = omega arith
+    few (suc k) st = let h = few k (oneMore s p winv st) in picked (λ (j : ℕ). j ≤ suc k) (isRunning (st .run)) _ _ (λ e. omega arith) (λ e. omega arith)
+
+    few-rounds : (k : ℕ) (st : Running) → FewRounds s p winv k st (go s p winv k st)
+    few-rounds k st = record { made = made k st; few = few k st }
 
 -- ---- the laws
 
@@ -221,4 +234,7 @@ unfolding on
 finished-stays s p drag k st e = ap (go s p (inverseWeights s p drag) k) (judge-stays s p st e) ∙ go-stays s p (inverseWeights s p drag) k st e
 
 pub at-most-the-portion : AtMostThePortion
-at-most-the-portion s p winv k st = at-most s p winv k st
+unfolding begin on
+at-most-the-portion s p drag k =
+    let winv = inverseWeights s p drag in
+    record { of-begin = few-rounds s p winv k (start s p); of-on = λ st. few-rounds s p winv k (judge s p st) }

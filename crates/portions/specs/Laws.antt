@@ -1,5 +1,5 @@
--- What holds of solving by rounds: document 02, 6/14, clause by clause. Statements; proofs/PortionLaws.antt, FinishLaws.antt, ChangeLaws.antt, OwnLaws.antt and KnownLaws.antt have the
--- proofs. A set of parameters is one that test 15 lets pass.
+-- What holds of solving by rounds: document 02, 6/14, clause by clause. Statements; the proofs stand in proofs/PortionLaws.antt, FinishLaws.antt, ChangeLaws.antt,
+-- OwnLaws.antt and KnownLaws.antt. `inRange` is test 15.
 use Prim.Native.Nat.{ℕ, zero, suc, _+_, _*_, _≤_}
 use mathlib.Core.Path.{_≡_}
 use mathlib.Core.Bool.{Bool, true, false, _||_, cond}
@@ -9,7 +9,7 @@ use lib.Dec.{eqb, leb, ltb}
 use lib.Ieee.{Float}
 use Rattle.scene.specs.Solve.{Scene, Parameters, inRange, unknowns, rowsOf, solveWith}
 use Rattle.closeness.specs.HowClosely.{AllSmall, HowClosely, roundsOf}
-use Rattle.portions.specs.Portions.{Running, isRunning, runOf, rowCount, within, beginRetry, endRun, oneMore, go, start, inverseWeights, begin, on, answerAt}
+use Rattle.portions.specs.Portions.{Running, isRunning, runOf, rowCount, within, beginRetry, endRun, judge, oneMore, go, start, inverseWeights, begin, on, answerAt}
 
 -- by this set the run that goes on has not ended
 abbrev pub Settled : Scene → Parameters → Running → Type 0
@@ -97,7 +97,7 @@ pub record NoneOver (s : Scene) (p : Parameters) : Type 0 where
 abbrev pub NoneOverTheLimit : Type 0
 NoneOverTheLimit = (s : Scene) (p : Parameters) → ltb (p .rowLimit) (rowCount s) ≡ true → NoneOver s p
 
--- ---- one's own states: begun by a call, and gone on with by calls over the same sheet, each by a set and a drag of its own; j is how many rounds the calls had in all
+-- ---- one's own states: begun by a call, and gone on with by calls over the same sheet, each by a set and a drag of its own; j is the sum of their portions
 
 pub data Own (s : Scene) : ℕ → Running → Type 0 where
   begun : (p : Parameters) (drag : Option ℕ) (k : ℕ) → inRange p ≡ true → Own s k (begin s p drag k)
@@ -111,7 +111,7 @@ pub record OwnState (s : Scene) (st : Running) : Type 0 where
 abbrev pub OwnStates : Type 0
 OwnStates = (s : Scene) (j : ℕ) (st : Running) → Own s j st → OwnState s st
 
--- by whatever sets, it is finished after two runs of the most rounds that a set allows
+-- by whatever sets, it is finished after portions of two runs of the most rounds that a set allows
 abbrev pub EndsByAnySets : Type 0
 EndsByAnySets = (s : Scene) (j : ℕ) (st : Running) → Own s j st → 2000 ≤ j → isRunning (st .run) ≡ false
 
@@ -128,13 +128,27 @@ pub record KnownRun (s : Scene) (p : Parameters) (drag : Option ℕ) (k : ℕ) :
 abbrev pub KnownRuns : Type 0
 KnownRuns = (s : Scene) (p : Parameters) (drag : Option ℕ) (k : ℕ) → KnownRun s p drag k
 
--- how many rounds a call makes
+-- so many rounds, one after another
+unfoldable pub more : Scene → Parameters → List Float → ℕ → Running → Running
+more s p winv zero st = st
+more s p winv (suc k) st = more s p winv k (oneMore s p winv st)
+
+-- how many rounds a portion of k makes
 unfoldable pub roundsMade : Scene → Parameters → List Float → ℕ → Running → ℕ
 roundsMade s p winv zero st = 0
 roundsMade s p winv (suc k) st = cond (isRunning (st .run)) (suc (roundsMade s p winv k (oneMore s p winv st))) 0
 
+-- a portion of k rounds leads from one state to another by just the rounds that it makes, and these are at most k
+pub record FewRounds (s : Scene) (p : Parameters) (winv : List Float) (k : ℕ) (from to : Running) : Type 0 where
+  pub made : to ≡ more s p winv (roundsMade s p winv k from) from
+  pub few : roundsMade s p winv k from ≤ k
+
+pub record FewByCall (s : Scene) (p : Parameters) (drag : Option ℕ) (k : ℕ) : Type 0 where
+  pub of-begin : FewRounds s p (inverseWeights s p drag) k (start s p) (begin s p drag k)
+  pub of-on : (st : Running) → FewRounds s p (inverseWeights s p drag) k (judge s p st) (on s p drag k st)
+
 abbrev pub AtMostThePortion : Type 0
-AtMostThePortion = (s : Scene) (p : Parameters) (winv : List Float) (k : ℕ) (st : Running) → roundsMade s p winv k st ≤ k
+AtMostThePortion = (s : Scene) (p : Parameters) (drag : Option ℕ) (k : ℕ) → FewByCall s p drag k
 
 -- demand 3 for any unknowns
 abbrev pub CloselyAt : Type 0

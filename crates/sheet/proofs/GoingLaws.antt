@@ -15,14 +15,15 @@ use Rattle.scene.specs.Solve.{Scene, Parameters, inRange, unknowns}
 use Rattle.scene.specs.declared.scene.Scene.{Scene as SceneStruct}
 use Rattle.rounds.specs.Parts.{need}
 use Rattle.placement.specs.Answer.{framesDoubles}
-use Rattle.portions.specs.Portions.{Running, runOf, start, judge, inverseWeights, begin, on}
+use Rattle.closeness.proofs.HowCloselyLaws.{rounds-end}
+use Rattle.portions.specs.Portions.{Running, runOf, begin, on}
 use Rattle.portions.specs.Laws.{Known}
 use Rattle.portions.specs.Laws.Own.{begun, gone}
 use Rattle.portions.proofs.PortionLaws.{at-most-the-portion, portions, judges-to-the-end, finished-stays}
 use Rattle.portions.proofs.FinishLaws.{finishes, closely-at}
 use Rattle.portions.proofs.KnownLaws.{known-runs, run-known}
 use Rattle.by_rounds.specs.State.{stateSize, heldIn, stateDoubles}
-use Rattle.by_rounds.specs.Held.{Left}
+use Rattle.by_rounds.specs.Held.{Room, Left}
 use Rattle.by_rounds.specs.declared.held.Reached.{Reached as ReachedStruct}
 use Rattle.by_rounds.proofs.HeldLaws.{left-as}
 use Rattle.format.specs.Format.{bodiesOf, relationsOf}
@@ -41,12 +42,9 @@ Made s c = SceneMade s 24 (bodiesOf s) (24 + 136 * bodiesOf s) (relationsOf s) c
 
 -- ---- what the calls below ask for
 
-module _ (s : List ℕ) (c : SceneStruct) (made : Made s c) (p : Parameters) (portion state scratch poses frames errors : ℕ) (a : AcceptedByRounds s p portion state scratch poses frames errors) where
-  abbrev pub Asked : Type 0
-  Asked =
-      Laid s c × (((c .rows ≤ 896) × (c .n ≤ 384)) × ((inRange p ≡ true) × ((need c ≤ scratch) × ((1 + 2 * c .n + c .rows ≤ state) × ((12 * c .m ≤ poses) × ((12 * c .m ≤ frames) × (c .k ≤ errors)))))))
-
-  pub asked : Asked
+module _ (s : List ℕ) (c : SceneStruct) (made : Made s c) (p : Parameters) (portion : ℕ) (state scratch poses frames errors : List Float)
+    (a : AcceptedByRounds s p portion (length state) (length scratch) (length poses) (length frames) (length errors)) where
+  pub asked : Laid s c × ((inRange p ≡ true) × ((need c ≤ length scratch) × Room c state poses frames errors))
   asked =
       let l = few s c made (a .sheet) in
       let m = made .body-count in
@@ -56,13 +54,17 @@ module _ (s : List ℕ) (c : SceneStruct) (made : Made s c) (p : Parameters) (po
       let r = row-count s c made in (
         made .laid,
         (
-          (l .rows, l .unknowns),
+          a .range,
           (
-            a .range,
-            (
-              omega (arith, a .scratch-long),
-              (omega (arith, a .state-long, u, r), (omega (arith, a .poses-long), (omega (arith, a .frames-long), omega (arith, a .errors-long)))),
-            ),
+            omega (arith, a .scratch-long),
+            record {
+              row-limit = l .rows;
+              unknown-limit = l .unknowns;
+              state-long = omega (arith, a .state-long, u, r);
+              poses-long = omega (arith, a .poses-long);
+              frames-long = omega (arith, a .frames-long);
+              errors-long = omega (arith, a .errors-long);
+            },
           ),
         ),
       )
@@ -124,7 +126,6 @@ module _ (s : List ℕ) (p : Parameters) (drag portion : ℕ) (state scratch pos
   abbrev begin-number : ℕ
   begin-number = beginFault s p drag portion (length state) (length scratch) (length poses) (length frames) (length errors)
 
-  -- the fields that hold whatever the number is, for an accepted call's range
   module _ (state' scratch' poses' frames' errors' : List Float) (n' rows' done' run' flag' : ℕ) (c : SceneStruct) (place : Option ℕ) (e : ReachedStruct) where
     pub begin-answered : (f : ℕ) → f ≡ begin-number → f ≡ 0 → Made s c → place ≡ dragOf drag → length scratch' ≡ length scratch
         → Left (sceneOf s c) p c (begin (sceneOf s c) p place portion) state state' poses poses' frames frames' errors errors' e
@@ -144,7 +145,8 @@ module _ (s : List ℕ) (p : Parameters) (drag portion : ℕ) (state scratch pos
               de
               rune
               fle;
-          few-rounds = at-most-the-portion (sceneAt s) p (inverseWeights (sceneAt s) p (dragOf drag)) portion (start (sceneAt s) p);
+          few-rounds = at-most-the-portion (sceneAt s) p (dragOf drag) portion .of-begin;
+          rounds = rounds-end (sceneAt s) p (dragOf drag);
           judged = λ q. judges-to-the-end (sceneAt s) p (dragOf drag) (a .range) portion .of-begin;
           solves = λ q k. finishes (sceneAt s) p (dragOf drag) (a .range) portion k;
           own = λ q. begun p (dragOf drag) portion (a .range);
@@ -159,7 +161,8 @@ module _ (s : List ℕ) (p : Parameters) (drag portion : ℕ) (state scratch pos
         unknowns-are = rw t;
         rows-are = rw t;
         left = left-none s p _ r state scratch poses frames errors done run flag ne;
-        few-rounds = at-most-the-portion (sceneAt s) p (inverseWeights (sceneAt s) p (dragOf drag)) portion (start (sceneAt s) p);
+        few-rounds = at-most-the-portion (sceneAt s) p (dragOf drag) portion .of-begin;
+        rounds = rounds-end (sceneAt s) p (dragOf drag);
         judged = λ q. absurd (ne q);
         solves = λ q. absurd (ne q);
         own = λ q. absurd (ne q);
@@ -189,7 +192,8 @@ module _ (s : List ℕ) (p : Parameters) (drag portion n rows : ℕ) (state scra
               de
               rune
               fle;
-          few-rounds = at-most-the-portion (sceneAt s) p (inverseWeights (sceneAt s) p (dragOf drag)) portion (judge (sceneAt s) p (stateOf s done run state));
+          few-rounds = at-most-the-portion (sceneAt s) p (dragOf drag) portion .of-on (stateOf s done run state);
+          rounds = rounds-end (sceneAt s) p (dragOf drag);
           judged = λ q. judges-to-the-end (sceneAt s) p (dragOf drag) (a .range) portion .of-on (stateOf s done run state);
           stays = finished-stays (sceneAt s) p (dragOf drag) portion (stateOf s done run state);
           own-state = λ q j o. gone p (dragOf drag) portion (a .range) o;
@@ -202,7 +206,8 @@ module _ (s : List ℕ) (p : Parameters) (drag portion n rows : ℕ) (state scra
       record {
         number = e;
         left = left-none s p _ r state scratch poses frames errors done run flag ne;
-        few-rounds = at-most-the-portion (sceneAt s) p (inverseWeights (sceneAt s) p (dragOf drag)) portion (judge (sceneAt s) p (stateOf s done run state));
+        few-rounds = at-most-the-portion (sceneAt s) p (dragOf drag) portion .of-on (stateOf s done run state);
+        rounds = rounds-end (sceneAt s) p (dragOf drag);
         judged = λ q. absurd (ne q);
         stays = finished-stays (sceneAt s) p (dragOf drag) portion (stateOf s done run state);
         own-state = λ q. absurd (ne q);

@@ -13,7 +13,7 @@ use Rattle.scene.specs.Solve.{Solution, Parameters, unknowns}
 use Rattle.placement.specs.Answer.{framesDoubles}
 use Rattle.closeness.specs.HowClosely.{HowClosely, roundsOf}
 use Rattle.portions.specs.Portions.{Running, isRunning, start, judge, inverseWeights, begin, on, answerAt}
-use Rattle.portions.specs.Laws.{Settled, roundsMade, Finished, Own}
+use Rattle.portions.specs.Laws.{Settled, FewRounds, Finished, Own}
 use Rattle.by_rounds.specs.State.{heldIn, stateDoubles}
 use Rattle.format.specs.Format.{bodiesOf, relationsOf}
 use Rattle.refusals.specs.SceneAt.{sceneAt}
@@ -62,11 +62,12 @@ pub record BeginAnswer (s : List ℕ) (p : Parameters) (drag portion r n n' rows
   pub unknowns-are : n' ≡ cond (eqb r 0) (unknowns (sceneAt s)) n
   pub rows-are : rows' ≡ cond (eqb r 0) (rowsIn (sceneAt s)) rows
   pub left : LeftBy s p (begunOn s p drag portion) r done done' run run' state state' scratch scratch' poses poses' frames frames' errors errors' flag flag'
-  -- at most `portion` rounds
-  pub few-rounds : roundsMade (sceneAt s) p (inverseWeights (sceneAt s) p (dragOf drag)) portion (start (sceneAt s) p) ≤ portion
+  -- at most `portion` rounds; and `solve` takes at most two runs of the set's
+  pub few-rounds : FewRounds (sceneAt s) p (inverseWeights (sceneAt s) p (dragOf drag)) portion (start (sceneAt s) p) (begunOn s p drag portion)
+  pub rounds : roundsOf (sceneAt s) p (dragOf drag) ≤ 2 * p .rounds
   -- a run that it leaves has not ended by its set
   pub judged : r ≡ 0 → Settled (sceneAt s) p (begunOn s p drag portion)
-  -- with as many rounds as `solve` takes, at most two runs of the set's, it is finished, with the answer of `solve`
+  -- with as many rounds as `solve` takes it is finished, with the answer of `solve`
   pub solves : r ≡ 0 → roundsOf (sceneAt s) p (dragOf drag) ≤ portion → Finished (sceneAt s) p (dragOf drag) portion
   pub own : r ≡ 0 → Own (sceneAt s) portion (begunOn s p drag portion)
 
@@ -75,12 +76,13 @@ pub record BeginAnswer (s : List ℕ) (p : Parameters) (drag portion r n n' rows
 pub record OnAnswer (s : List ℕ) (p : Parameters) (drag portion r n rows done done' run run' : ℕ) (state state' scratch scratch' poses poses' frames frames' errors errors' : List Float) (flag flag' : ℕ) : Type 0 where
   pub number : r ≡ onFault s p drag portion n rows (length state) (length scratch) (length poses) (length frames) (length errors)
   pub left : LeftBy s p (goneOn s p drag portion (stateOf s done run state)) r done done' run run' state state' scratch scratch' poses poses' frames frames' errors errors' flag flag'
-  -- at most `portion` rounds
-  pub few-rounds : roundsMade (sceneAt s) p (inverseWeights (sceneAt s) p (dragOf drag)) portion (judge (sceneAt s) p (stateOf s done run state)) ≤ portion
+  -- at most `portion` rounds; and `solve` takes at most two runs of the set's
+  pub few-rounds : FewRounds (sceneAt s) p (inverseWeights (sceneAt s) p (dragOf drag)) portion (judge (sceneAt s) p (stateOf s done run state)) (goneOn s p drag portion (stateOf s done run state))
+  pub rounds : roundsOf (sceneAt s) p (dragOf drag) ≤ 2 * p .rounds
   -- a run that it leaves has not ended by its set, and a finished state stays
   pub judged : r ≡ 0 → Settled (sceneAt s) p (goneOn s p drag portion (stateOf s done run state))
   pub stays : isRunning (stateOf s done run state .run) ≡ false → goneOn s p drag portion (stateOf s done run state) ≡ stateOf s done run state
-  -- one's own stays one's own, by whatever set; j is how many rounds the calls had in all (`own-states`, `ends-by-any-sets`)
+  -- one's own stays one's own, by whatever set; j is the sum of the calls' portions (`own-states`, `ends-by-any-sets`)
   pub own-state : r ≡ 0 → (j : ℕ) → Own (sceneAt s) j (stateOf s done run state) → Own (sceneAt s) (j + portion) (goneOn s p drag portion (stateOf s done run state))
   -- under one set it is as if the call that began had had these rounds too
   pub follows : r ≡ 0 → (k : ℕ) → stateOf s done run state ≡ begunOn s p drag k → goneOn s p drag portion (stateOf s done run state) ≡ begunOn s p drag (k + portion)

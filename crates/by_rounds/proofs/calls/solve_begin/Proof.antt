@@ -15,20 +15,20 @@ solve-parts-requires c κs = search needs
 placed : (c : tie.After-solve-parts) → let g = c .before .before .before .before .before .before .before .args in Arranged (g .scene) (c .solve-parts .result) (length (g .s .now))
 placed c =
     let o = c .before .before .before .before .before .before .before in
-    arranged-as (o .args .scene) (c .solve-parts .result) (length (o .args .s .now)) (c .solve-parts .ensures) (o .pre .1 .1 .1 .0)
+    arranged-as (o .args .scene) (c .solve-parts .result) (length (o .args .s .now)) (c .solve-parts .ensures) (o .pre .1 .1 .0)
 
 begin-requires : tie.Need-begin-requires
 begin-requires c κs =
     let arranged = c .before in
     let o = arranged .before .before .before .before .before .before .before in
-    (o .pre .0, (placed arranged, (o .pre .1 .0 .1, o .pre .1 .1 .0)))
+    (o .pre .0, (placed arranged, (o .pre .1 .1 .1 .unknown-limit, o .pre .1 .0)))
 
 put-reached-requires : tie.Need-put-reached-requires
 put-reached-requires c κs =
     let went = c .before .before .before .before .before .before .before in
     let arranged = went .before .before in
     let o = arranged .before .before .before .before .before .before .before in
-    (o .pre .0, (arranged-same (went .begin .ensures .size) (placed arranged), (o .pre .1 .0, o .pre .1 .1 .1 .1)))
+    (o .pre .0, (arranged-same (went .begin .ensures .size) (placed arranged), o .pre .1 .1 .1))
 
 same-length : tie.Need-same-length
 same-length c = search needs

@@ -18,20 +18,21 @@ solve-parts-requires c κs = search needs
 placed : (c : tie.After-solve-parts) → let g = c .before .before .before .before .before .before .before .args in Arranged (g .scene) (c .solve-parts .result) (length (g .s .now))
 placed c =
     let o = c .before .before .before .before .before .before .before in
-    arranged-as (o .args .scene) (c .solve-parts .result) (length (o .args .s .now)) (c .solve-parts .ensures) (o .pre .1 .1 .1 .0)
+    arranged-as (o .args .scene) (c .solve-parts .result) (length (o .args .s .now)) (c .solve-parts .ensures) (o .pre .1 .1 .0)
 
 take-held-requires : tie.Need-take-held-requires
 take-held-requires c κs =
     let arranged = c .before .before in
     let o = arranged .before .before .before .before .before .before .before in
-    (placed arranged, (o .pre .1 .0, o .pre .1 .1 .1 .1 .0))
+    let r = o .pre .1 .1 .1 in
+    (placed arranged, ((r .row-limit, r .unknown-limit), r .state-long))
 
 on-requires : tie.Need-on-requires
 on-requires c κs =
     let taken = c .before .before .before in
     let arranged = taken .before .before .before in
     let o = arranged .before .before .before .before .before .before .before in
-    (o .pre .0, (arranged-same (taken .take-held .ensures .size) (placed arranged), (o .pre .1 .0 .1, o .pre .1 .1 .0)))
+    (o .pre .0, (arranged-same (taken .take-held .ensures .size) (placed arranged), (o .pre .1 .1 .1 .unknown-limit, o .pre .1 .0)))
 
 put-reached-requires : tie.Need-put-reached-requires
 put-reached-requires c κs =
@@ -39,7 +40,7 @@ put-reached-requires c κs =
     let taken = went .before .before .before .before in
     let arranged = taken .before .before .before in
     let o = arranged .before .before .before .before .before .before .before in
-    (o .pre .0, (arranged-same (went .on .ensures .size ∙ taken .take-held .ensures .size) (placed arranged), (o .pre .1 .0, o .pre .1 .1 .1 .1)))
+    (o .pre .0, (arranged-same (went .on .ensures .size ∙ taken .take-held .ensures .size) (placed arranged), o .pre .1 .1 .1))
 
 same-length : tie.Need-same-length
 same-length c = search needs

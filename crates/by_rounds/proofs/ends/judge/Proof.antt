@@ -13,8 +13,8 @@ use Rattle.by_rounds.proofs.ends.judge.Tie as tie
 is-running-requires : tie.Need-is-running-requires
 is-running-requires c κs = search needs
 
-over-requires : tie.Need-over-requires
-over-requires c κs = search needs
+is-over-requires : tie.Need-is-over-requires
+is-over-requires c κs = search needs
 
 judged-requires : tie.Need-judged-requires
 judged-requires c κs = search needs
@@ -29,7 +29,7 @@ returns c =
     let is = test .before in
     let o = is .before .before .before in
     let g = o .args in
-    went-as (g .scene) (g .p) (g .s .now) _ _ _ _ (last .judged .ensures) (judge-running (sceneOf (g .sheet .now) (g .scene)) (parametersOf (g .q)) (runningIn (g .scene) (g .p) (g .s .now) (g .g)) _ _ (is .is-running .ensures) (test .if1 .taken) (last .before .before .over .ensures ∙ ap (λ (k : ℕ). leb (g .q .rounds) (g .g .done) || ltb 800 k) (sym (row-count-is (g .sheet .now) (g .scene) (o .pre .0)))))
+    went-as (g .scene) (g .p) (g .s .now) _ _ _ _ (last .judged .ensures) (judge-running (sceneOf (g .sheet .now) (g .scene)) (parametersOf (g .q)) (runningIn (g .scene) (g .p) (g .s .now) (g .g)) _ _ (is .is-running .ensures) (test .if1 .taken) (last .before .before .is-over .ensures ∙ ap (λ (k : ℕ). leb (g .q .rounds) (g .g .done) || ltb 800 k) (sym (row-count-is (g .sheet .now) (g .scene) (o .pre .0)))))
 
 returns-2 : tie.Need-returns-2
 returns-2 c =
@@ -40,4 +40,4 @@ returns-2 c =
 pub judge-spec : {M : Type 1} → statement M
 judge-spec =
     tie.close
-    (tie.spec is-running-requires over-requires judged-requires same-length returns returns-2)
+    (tie.spec is-running-requires is-over-requires judged-requires same-length returns returns-2)

@@ -13,10 +13,10 @@ put-held-requires c κs = search needs
 put-answer-requires : tie.Need-put-answer-requires
 put-answer-requires c κs =
     let o = c .before .before .before .before .before .before .before .before .before .before .before .before .before .before .before in
-    (o .pre .0, (o .pre .1 .0, o .pre .1 .1 .1 .1))
+    (o .pre .0, (o .pre .1 .0, (o .pre .1 .1 .poses-long, (o .pre .1 .1 .frames-long, o .pre .1 .1 .errors-long))))
 
 all-within-requires : tie.Need-all-within-requires
-all-within-requires c κs = omega (arith, c .before .before .errors .given, c .before .before .before .before .before .before .before .before .before .before .before .before .before .before .before .before .before .before .before .before .before .before .before .before .before .pre .1 .1 .1 .1 .1 .1)
+all-within-requires c κs = omega (arith, c .before .before .errors .given, c .before .before .before .before .before .before .before .before .before .before .before .before .before .before .before .before .before .before .before .before .before .before .before .before .before .pre .1 .1 .errors-long)
 
 same-length : tie.Need-same-length
 same-length c = search needs

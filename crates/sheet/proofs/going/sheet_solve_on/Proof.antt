@@ -36,7 +36,7 @@ solve-on-requires : tie.Need-solve-on-requires
 solve-on-requires c κs =
     let read = c .before .before .before .before .before .before .before .before in
     let g = entry (read .before .before) .args in
-    asked (g .sheet .now) _ (read .scene-in .ensures) (chosen (g .tolerance) (g .rounds) (g .limit) (g .weight)) _ _ _ _ _ _ (accepted (read .before))
+    asked (g .sheet .now) _ (read .scene-in .ensures) (chosen (g .tolerance) (g .rounds) (g .limit) (g .weight)) (g .portion) (g .state .now) (g .scratch .now) (g .poses .now) (g .frames .now) (g .errors .now) (accepted (read .before))
 
 flag-requires : tie.Need-flag-requires
 flag-requires c κs = search needs
