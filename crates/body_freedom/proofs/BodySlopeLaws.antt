@@ -15,7 +15,6 @@ use Rattle.numbers.specs.Double.{zero64}
 use Rattle.spans.specs.Flat.{flatTo, flat}
 use Rattle.relations.specs.Geometry.{Pose}
 use Rattle.relations.specs.Model.{Body, Rel, poseOfFrame}
-use Rattle.judging.proofs.CountLaws.{residual-length}
 use Rattle.records.specs.Record.{bodyAt, relAt}
 use Rattle.scene.specs.Scene.{sceneIn}
 use Rattle.least_squares.specs.Lm.{listOf, tableOf, stepOf, slopeOf, ahead, behind, slope, jacobian}
@@ -26,6 +25,7 @@ use Rattle.body_freedom.specs.Dof.{relsOf, withBody, bodyRows, zeros, co
 use Rattle.scene.specs.declared.scene.Scene.{Scene as SceneStruct}
 use Rattle.least_squares.proofs.MemoryLaws.{part-length, part-at, kept-part-below, kept-at-below}
 use Rattle.least_squares.proofs.TableLaws.{length-listOf, getD-listOf, sum-same, in-rows, length-tableOf, getD-tableOf, table-ext}
+use Rattle.scene.proofs.RowCountLaws.{rows-alike}
 use Rattle.scene.proofs.SceneLaws.{Growing, growing-step, growing-room, growing-end, listOf-next, drop-whole, length-bodies, bodies-next, next-layout, poses-kept, poses-there, poses-put}
 use Rattle.body_freedom.specs.BodySlopes.{bodyParts, BodyApart, starts, shifted, namedRows, rowsOn, movedRows, RowsMoved, BodyColumn, BodySlopes, BodySquare}
 use Rattle.body_freedom.specs.declared.body_slopes.BodyParts.{BodyParts as BodyPartsStruct}
@@ -118,16 +118,6 @@ on-done sheet c i poses j e =
     ap (λ (l : List Rel). allRows poses (relsOf l i)) (drop-whole (sceneOf sheet c .rels) j (length-listOf (λ j. relAt sheet (c .rels + 264 * j)) (c .k) ∙ sym e))
 
 -- how many rows there are does not depend on the poses
-rows-alike : (rels : List Rel) (poses poses' : List (Pose Float)) → length (allRows poses rels) ≡ length (allRows poses' rels)
-unfolding allRows
-rows-alike [] poses poses' = refl
-rows-alike (rel ∷ rels) poses poses' =
-    let a = length-append (rowsAt poses rel) (allRows poses rels) in
-    let b = length-append (rowsAt poses' rel) (allRows poses' rels) in
-    let d : length (rowsAt poses rel) ≡ length (rowsAt poses' rel) = residual-length _ _ _ _ _ _ ∙ sym (residual-length _ _ _ _ _ _) in
-    let e = rows-alike rels poses poses' in
-    omega arith
-
 pub on-alike : (sc : Scene) (i : ℕ) (poses poses' : List (Pose Float)) → length (rowsOn sc i poses) ≡ length (rowsOn sc i poses')
 on-alike sc i poses poses' = rows-alike (relsOf (sc .rels) i) poses poses'
 

@@ -4,20 +4,18 @@ use Prim.Native.Nat.{ℕ, zero, suc, _+_, _-_, _≤_}
 use native.Mathlib.Omega.{arith}
 use mathlib.Core.Path.{_≡_, refl, sym, ap, subst, _∙_}
 use mathlib.Core.Bool.{Bool, true, false, not, _&&_, _||_, cond, true≢false}
-use mathlib.Core.List.{List, [], _∷_, map}
+use mathlib.Core.List.{List, map}
 use mathlib.Core.Option.{Option, none, some}
-use lib.ListN.{length, length-append}
+use lib.ListN.{length}
 use lib.Dec.{eqb, leb, ltb}
 use lib.Ieee.{Float, lt, le}
 use borrow.Author.Tests.{le-leb, lt-leb}
 use Rattle.numbers.specs.Double.{zero64, isFinite}
 use Rattle.numbers.specs.MaxAbs.{maxAbs}
-use Rattle.relations.specs.Geometry.{Pose}
-use Rattle.relations.specs.Model.{Rel}
-use Rattle.judging.proofs.CountLaws.{residual-length}
 use Rattle.least_squares.specs.Lm.{State, Tried, Outcome, listOf, norm2, judged as judgedStep, stepWith, trial, trials, oneRound, rounds, run}
 use Rattle.least_squares.proofs.TableLaws.{length-listOf}
-use Rattle.scene.specs.Solve.{Scene, Parameters, inRange, unknowns, posesAt, rowsAt, allRows, rowsOf, framesFrom, startAt, slightTurn, runFrom, better, solved, solveWith}
+use Rattle.scene.specs.Solve.{Scene, Parameters, inRange, unknowns, posesAt, rowsAt, rowsOf, framesFrom, startAt, slightTurn, runFrom, better, solved, solveWith}
+use Rattle.scene.proofs.RowCountLaws.{rows-alike}
 use Rattle.closeness.specs.HowClosely.{roundsOf}
 use Rattle.closeness.proofs.HowCloselyLaws.{picked, either, none-within, zero-tolerance, range-tolerance, rounds-end, solved-converged, within-all, answer-closely}
 use Rattle.portions.specs.Portions.{Running, isRunning, finished, within, fresh, noRound, endRetry, beginRetry, endRun, judged, oneMore, go, start, inverseWeights, begin, answerAt}
@@ -54,18 +52,6 @@ module _ (f : List Float → List Float) (winv : List Float) where
   round-summed : (s : State) → Summed (oneRound f winv s)
   unfolding oneRound
   round-summed s = trials-summed _ _ _ 12 s
-
--- ---- how many rows there are does not depend on the poses
-
-rows-alike : (rels : List Rel) (poses poses' : List (Pose Float)) → length (allRows poses rels) ≡ length (allRows poses' rels)
-unfolding allRows
-rows-alike [] poses poses' = refl
-rows-alike (rel ∷ rels) poses poses' =
-    let a = length-append (rowsAt poses rel) (allRows poses rels) in
-    let b = length-append (rowsAt poses' rel) (allRows poses' rels) in
-    let d : length (rowsAt poses rel) ≡ length (rowsAt poses' rel) = residual-length _ _ _ _ _ _ ∙ sym (residual-length _ _ _ _ _ _) in
-    let e = rows-alike rels poses poses' in
-    omega arith
 
 -- ---- the rounds of one run
 

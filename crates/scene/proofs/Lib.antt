@@ -1,2 +1,3 @@
 pub mod SceneLaws
 pub mod LayoutLaws
+pub mod RowCountLaws
