@@ -13,7 +13,7 @@
 /* The most of a sheet: bytes, bodies, relations, unknowns and rows. */
 enum { BYTES = 42520, BODIES = 64, RELATIONS = 128, UNKNOWNS = 6 * BODIES, ROWS = 7 * RELATIONS };
 enum { STATE = 1 + 2 * UNKNOWNS + ROWS };
-enum { SCRATCH = ROWS * UNKNOWNS + 2 * ROWS * ROWS + 8 * ROWS + 8 * UNKNOWNS + 32 * BODIES };
+enum { SCRATCH = ROWS * UNKNOWNS + ROWS * ROWS + ROWS * (ROWS + 1) / 2 + 8 * ROWS + 8 * UNKNOWNS + 32 * BODIES };
 enum { NO_DRAG = 65535, FINISHED = 3 };
 
 /* What sheet_solve takes as given. */

@@ -54,10 +54,10 @@ uint32_t sheet_snap(const uint8_t *sheet, size_t sheet_len, uint16_t relation, d
  * bodies and relations.
  *
  *   drag       the number of the body that was moved by hand, which stays as near where it was put as it may; 65535 for none
- *   scratch    at least R*n + 2*R*R + 8*R + 8*n + 32*m doubles, where R is the number of rows of all relations, at most 7*k,
- *              and n is six times the number of unfixed bodies that relations name, symmetry's plane and a gear's carrier
- *              included, at most 6*m. What stands in it at entry has no say in the answer, and an accepted call leaves any
- *              doubles in it.
+ *   scratch    at least R*n + R*R + R*(R+1)/2 + 8*R + 8*n + 32*m doubles, where R is the number of rows of all relations, at
+ *              most 7*k, and n is six times the number of unfixed bodies that relations name, symmetry's plane and a gear's
+ *              carrier included, at most 6*m. What stands in it at entry has no say in the answer, and an accepted call leaves
+ *              any doubles in it.
  *   poses      at least 12*m doubles: for each body nine turning entries by row, then the position
  *   frames     at least 12*m doubles: for each body its frame at that pose: origin, x, y, z
  *   errors     at least k doubles: for each relation the largest magnitude among its rows at the poses, 0 if it has no rows;

@@ -1,7 +1,7 @@
--- Facts for the loops of lm.rs: diagonal places lie in the matrix, and what a store on the diagonal or in a row does to its part. Assumes nothing.
-use mathlib.Core.Path.{_≡_, refl, sym, ap, subst, _∙_}
+-- Facts for the loops of lm.rs: diagonal places lie in the matrix, what a store on the diagonal or in a row does to its part, and that the rows formed are the matrix. Assumes nothing.
+use mathlib.Core.Path.{_≡_, sym, ap, subst, _∙_}
 use mathlib.Core.List.{List, [], _∷_, _++_}
-use Prim.Native.Nat.{ℕ, zero, suc, _+_, _-_, _*_, _≤_, _<_, min, max}
+use Prim.Native.Nat.{ℕ, suc, _+_, _*_, _≤_, _<_, min, max}
 use mathlib.Core.Logic.{inl, inr}
 use native.Mathlib.Omega.{arith}
 use native.Mathlib.Decide.{decLt}
@@ -14,10 +14,12 @@ use Rattle.numbers.specs.Double.{zero64}
 use Rattle.numbers.specs.Ops.{doubles}
 use Rattle.numbers.specs.Sum.{sumFrom}
 use Rattle.least_squares.specs.Memory.{part, Kept}
+use Rattle.least_squares.specs.Triangle.{triangle, spread}
 use Rattle.least_squares.specs.Lm.{listOf, gram, gramAt, normal, normalAt, steppedAt, stepped}
 use Rattle.least_squares.specs.LmPosts.{MatrixRow}
-use Rattle.least_squares.proofs.MemoryLaws.{part-at, part-set, part-length, kept-set, kept-trans, kept-wider, kept-at-below, kept-at-above, kept-part-below, kept-part-above}
-use Rattle.least_squares.proofs.TableLaws.{in-rows, sum-same, table-ext, length-listOf, getD-listOf}
+use Rattle.least_squares.proofs.MemoryLaws.{part-at, part-set, part-length, kept-set, kept-trans, kept-wider, kept-at-below, kept-at-above, kept-part-below}
+use Rattle.least_squares.proofs.TableLaws.{in-rows, sum-same, length-listOf, getD-listOf}
+use Rattle.least_squares.proofs.TriangleLaws.{triangle-next, triangle-more, in-triangle, spread-is}
 
 -- the entry (i, j) of the matrix at a
 pub entry-at : (s : List Float) (a rows i j : ℕ) → i < rows → j < rows → getD (part s a (rows * rows)) (i * rows + j) nan ≡ getD s (a + i * rows + j) nan
@@ -64,6 +66,14 @@ gram-is o s n rows w lo hi i k h l below above r = sum-same zero64 _ _ n same
         ≡ mul binary64 (mul binary64 (getD (part o 0 (rows * n)) (i * n + c) nan) (getD (part o 0 (rows * n)) (k * n + c) nan)) (getD (part o w n) c nan)
     same c m = λ j. mul binary64 (mul binary64 (slope-at i c h m j) (slope-at k c l m j)) (weight-at c m j)
 
+pub gram-kept : (o s : List Float) (n w lo hi i k : ℕ) → i * n + n ≤ lo → k * n + n ≤ lo → hi ≤ w → Kept o s lo hi → gramAt s (i * n) (k * n) w n ≡ gramAt o (i * n) (k * n) w n
+unfolding gramAt
+gram-kept o s n w lo hi i k h l above r =
+    sum-same zero64 _ _ n
+    (λ c m j.
+    mul binary64 (mul binary64 (kept-at-below o s lo hi (i * n + c) nan (omega arith) r j) (kept-at-below o s lo hi (k * n + c) nan (omega arith) r j))
+    (kept-at-above o s lo hi (w + c) nan (omega arith) r j))
+
 -- the matrix is the same on both sides of its diagonal
 pub normal-turned : (jac winv : List Float) (n i k : ℕ) → normalAt jac winv n k i ≡ normalAt jac winv n i k
 normal-turned jac winv n i k =
@@ -71,15 +81,11 @@ normal-turned jac winv n i k =
     let b : max k i ≡ max i k = omega arith in
     λ j. gram jac winv n (a j) (b j)
 
-pub normal-right : (jac winv : List Float) (n i k : ℕ) → i ≤ k → gram jac winv n i k ≡ normalAt jac winv n i k
-normal-right jac winv n i k h =
-    let a : i ≡ min i k = omega arith in
-    let b : k ≡ max i k = omega arith in
+pub normal-left : (jac winv : List Float) (n i k : ℕ) → k ≤ i → gram jac winv n k i ≡ normalAt jac winv n i k
+normal-left jac winv n i k h =
+    let a : k ≡ min i k = omega arith in
+    let b : i ≡ max i k = omega arith in
     λ j. gram jac winv n (a j) (b j)
-
--- left of the diagonal a row stands behind the entry that it copies
-pub above-row : (k i rows : ℕ) → k < i → i < rows → k * rows + i < i * rows
-above-row k i rows h l = let m = mul-le-mul-right rows h in let e = suc-mul k rows in omega arith
 
 -- one more entry of a row from `at` on
 pub row-step : (s : List Float) (at k : ℕ) (v : Float) (E : ℕ → Float) → at + k < length s → v ≡ E k → ((j : ℕ) → j < k → getD s (at + j) nan ≡ E j)
@@ -90,69 +96,58 @@ row-step s at k v E h e r j l =
       | inr m ↦ getD-set-other s (at + k) (at + j) v nan (λ (z : at + j ≡ at + k). omega arith) ∙ r j m
     ]
 
--- one more entry of row i of the matrix at a
-pub matrix-step : (o s t : List Float) (i n rows a w k : ℕ) (v : Float) → i < rows → k < rows → a + rows * rows ≤ w → w + n ≤ length o
-    → Kept o s (a + i * rows) (a + i * rows + rows)
-    → ((j : ℕ) → j < k → getD s (a + i * rows + j) nan ≡ normalAt (part o 0 (rows * n)) (part o w n) n i j)
-    → v ≡ normalAt (part o 0 (rows * n)) (part o w n) n i k
-    → t ≡ set s (a + i * rows + k) v
-    → Kept o t (a + i * rows) (a + i * rows + rows) × ((j : ℕ) → j < k + 1 → getD t (a + i * rows + j) nan ≡ normalAt (part o 0 (rows * n)) (part o w n) n i j)
-matrix-step o s t i n rows a w k v h l above fits r e q p =
-    let m = in-rows i k rows rows h l in
+-- one more of the doubles that are written from `at` on
+pub fill-step : (o s t : List Float) (at size k : ℕ) (v : Float) (E : ℕ → Float) → k < size → at + size ≤ length o → Kept o s at (at + size)
+    → ((j : ℕ) → j < k → getD s (at + j) nan ≡ E j) → v ≡ E k → t ≡ set s (at + k) v
+    → Kept o t at (at + size) × ((j : ℕ) → j < k + 1 → getD t (at + j) nan ≡ E j)
+fill-step o s t at size k v E h fits r e q p =
     let z = r .size in
-    subst
-    (λ (u : List Float). Kept o u (a + i * rows) (a + i * rows + rows) × ((j : ℕ) → j < k + 1 → getD u (a + i * rows + j) nan ≡ normalAt (part o 0 (rows * n)) (part o w n) n i j))
-    (sym p) (
-      kept-set o s (a + i * rows) (a + i * rows + rows) (a + i * rows + k) v (omega arith) (omega arith) r,
-      row-step s (a + i * rows) k v (normalAt (part o 0 (rows * n)) (part o w n) n i) (omega arith) q e,
-    )
-
--- left of the diagonal the entry is the one above it
-pub left-value : (o s : List Float) (i n rows a w k : ℕ) → k < i → i < rows → Kept o s (a + i * rows) (a + i * rows + rows)
-    → getD o (a + k * rows + i) nan ≡ normalAt (part o 0 (rows * n)) (part o w n) n k i
-    → getD s (a + k * rows + i) nan ≡ normalAt (part o 0 (rows * n)) (part o w n) n i k
-left-value o s i n rows a w k h l r e =
-    let m = above-row k i rows h l in
-    kept-at-below o s (a + i * rows) (a + i * rows + rows) (a + k * rows + i) nan (omega arith) r ∙ e ∙ normal-turned (part o 0 (rows * n)) (part o w n) n i k
+    subst (λ (u : List Float). Kept o u at (at + size) × ((j : ℕ) → j < k + 1 → getD u (at + j) nan ≡ E j)) (sym p)
+    (kept-set o s at (at + size) (at + k) v (omega arith) (omega arith) r, row-step s at k v E (omega arith) q e)
 
 -- a row of the slopes ends where the slopes do, at the latest
 pub row-fits : (i n rows : ℕ) → i < rows → i * n + n ≤ rows * n
 row-fits i n rows h = let m = mul-le-mul-right n h in let e = suc-mul i n in omega arith
 
--- the first i rows of the matrix at a are those of the slopes and weights that o has
-abbrev pub Entries : List Float → List Float → ℕ → ℕ → ℕ → ℕ → ℕ → Type 0
-Entries o s i n rows a w = (p k : ℕ) → p < i → k < rows → getD s (a + p * rows + k) nan ≡ normalAt (part o 0 (rows * n)) (part o w n) n p k
+-- the first i rows of the matrix f up to the diagonal, in the triangle at a
+abbrev pub Lower : List Float → ℕ → (ℕ → ℕ → Float) → ℕ → Type 0
+Lower s a f i = (p k : ℕ) → p < i → k < p + 1 → getD s (a + triangle p + k) nan ≡ f p k
 
--- the slopes and the weights are kept while the matrix is formed
-pub same-normal : (o s : List Float) (n rows a w p k : ℕ) → rows * n ≤ a → a + rows * rows ≤ w → Kept o s a (a + rows * rows)
-    → normalAt (part s 0 (rows * n)) (part s w n) n p k ≡ normalAt (part o 0 (rows * n)) (part o w n) n p k
-same-normal o s n rows a w p k h l r =
-    let e = kept-part-below o s a (a + rows * rows) 0 (rows * n) (omega arith) r in
-    let g = kept-part-above o s a (a + rows * rows) w n l r in
-    λ j. normalAt (e j) (g j) n p k
-
-pub rows-step : (o s t : List Float) (i n rows a w : ℕ) → i < rows → rows * n ≤ a → a + rows * rows ≤ w → Kept o s a (a + rows * rows) → Entries o s i n rows a w
-    → MatrixRow s t i n rows a w → Kept o t a (a + rows * rows) × Entries o t (i + 1) n rows a w
-rows-step o s t i n rows a w h l m r e q =
-    let f = row-fits i rows rows h in
-    (kept-trans o s t a (a + rows * rows) r (kept-wider s t (a + i * rows) (a + i * rows + rows) a (a + rows * rows) (omega arith) (omega arith) (q .kept)), more)
+-- one more row: the slopes and the weights are those that o has
+pub lower-step : (o s t : List Float) (i n rows a w : ℕ) → i < rows → rows * n ≤ a → a + triangle rows ≤ w → Kept o s a (a + triangle rows)
+    → Lower s a (normalAt (part o 0 (rows * n)) (part o w n) n) i → MatrixRow s t i (a + triangle i) n w
+    → Kept o t a (a + triangle rows) × Lower t a (normalAt (part o 0 (rows * n)) (part o w n) n) (i + 1)
+lower-step o s t i n rows a w h below above r e q =
+    let z = triangle-next i in
+    let f : triangle (i + 1) ≤ triangle rows = triangle-more (i + 1) rows (omega arith) in
+    (kept-trans o s t a (a + triangle rows) r (kept-wider s t (a + triangle i) (a + triangle i + (i + 1)) a (a + triangle rows) (omega arith) (omega arith) (q .kept)), more)
   where
-    more : Entries o t (i + 1) n rows a w
+    jac : List Float
+    jac = part o 0 (rows * n)
+
+    winv : List Float
+    winv = part o w n
+
+    more : Lower t a (normalAt jac winv n) (i + 1)
     more p k b d =
         elim (eq-or-lt-of-le (le-of-suc-le-suc (rw add-one at b))) [
           | inl z ↦
-              ap (λ (x : ℕ). getD t (a + x * rows + k) nan) z ∙ q .entries k d ∙ same-normal o s n rows a w i k l m r
-              ∙ ap (λ (x : ℕ). normalAt (part o 0 (rows * n)) (part o w n) n x k) (sym z)
+              let d' : k < i + 1 = omega arith in
+              ap (λ (x : ℕ). getD t (a + triangle x + k) nan) z ∙ q .entries k d'
+              ∙ gram-is o s n rows w a (a + triangle rows) k i (omega arith) h below above r
+              ∙ normal-left jac winv n i k (omega arith)
+              ∙ ap (λ (x : ℕ). normalAt jac winv n x k) (sym z)
           | inr z ↦
-              let g = row-fits p rows i z in
-              kept-at-below s t (a + i * rows) (a + i * rows + rows) (a + p * rows + k) nan (omega arith) (q .kept) ∙ e p k z d
+              let g = in-triangle p k i (omega arith) z in
+              kept-at-below s t (a + triangle i) (a + triangle i + (i + 1)) (a + triangle p + k) nan (omega arith) (q .kept) ∙ e p k z d
         ]
 
--- all rows are the matrix
-pub rows-all : (o s : List Float) (n rows a w : ℕ) → a + rows * rows ≤ length s → Entries o s rows n rows a w → part s a (rows * rows) ≡ normal (part o 0 (rows * n)) (part o w n) n rows
+-- all rows: each entry read is the matrix's
+pub lower-all : (o s : List Float) (n rows a w : ℕ) → Lower s a (normalAt (part o 0 (rows * n)) (part o w n) n) rows
+    → spread (part s a (triangle rows)) rows ≡ normal (part o 0 (rows * n)) (part o w n) n rows
 unfolding normal
-rows-all o s n rows a w h e = table-ext (normalAt (part o 0 (rows * n)) (part o w n) n) rows rows (part s a (rows * rows)) (part-length s a (rows * rows) h)
-    (λ i k l m. entry-at s a rows i k l m ∙ e i k l m)
+lower-all o s n rows a w e =
+    spread-is (normalAt (part o 0 (rows * n)) (part o w n) n) s a rows (λ i k. normal-turned (part o 0 (rows * n)) (part o w n) n k i) e
 
 -- a column of the slopes times y, in memory
 abbrev pub columnTerm : List Float → ℕ → ℕ → ℕ → ℕ → ℕ → Float
@@ -188,9 +183,7 @@ step-step o s t n rows x a w y z c v h m b d f g r e q p =
     let k1 = kept-part-below o s z (z + n) a (rows * n) m r in
     let k2 = kept-part-below o s z (z + n) w n d r in
     let k3 = kept-part-below o s z (z + n) y rows f r in
-    let u = r .size in
-    subst (λ (l : List Float). Kept o l z (z + n) × ((j : ℕ) → j < c + 1 → getD l (z + j) nan ≡ E j)) (sym p)
-    (kept-set o s z (z + n) (z + c) v (omega arith) (omega arith) r, row-step s z c v E (omega arith) (q ∙ (λ j. steppedAt (k0 j) (k1 j) (k2 j) (k3 j) rows c)) e)
+    fill-step o s t z n c v E h g r e (q ∙ (λ j. steppedAt (k0 j) (k1 j) (k2 j) (k3 j) rows c)) p
 
 -- a part of as many entries as a list has, equal entry by entry, is the list
 pub list-ext : (f : ℕ → Float) (n : ℕ) (l : List Float) → length l ≡ n → ((i : ℕ) → i < n → getD l i nan ≡ f i) → l ≡ listOf f n

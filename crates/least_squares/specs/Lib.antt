@@ -1,4 +1,5 @@
 pub mod Lm
 pub mod Memory
+pub mod Triangle
 pub mod LmPosts
 pub mod Dense

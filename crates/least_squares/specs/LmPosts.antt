@@ -5,21 +5,33 @@ use mathlib.Core.List.{List}
 use lib.ListN.{getD}
 use lib.Ieee.{Float, nan}
 use Rattle.least_squares.specs.Memory.{part, Kept}
-use Rattle.least_squares.specs.Lm.{normal, normalAt, dampTo, stepped}
+use Rattle.least_squares.specs.Lm.{gramAt, normal, dampTo, stepped}
+use Rattle.least_squares.specs.Triangle.{triangle, spread}
 
--- row i of the matrix at a, from the slopes at 0 and the weights at w
-pub record MatrixRow (s t : List Float) (i n rows a w : ℕ) : Type 0 where
-  pub entries : (k : ℕ) → k < rows → getD t (a + i * rows + k) nan ≡ normalAt (part s 0 (rows * n)) (part s w n) n i k
-  pub kept : Kept s t (a + i * rows) (a + i * rows + rows)
+-- row i of the matrix up to the diagonal, at `at`; slopes at 0, weights at w
+pub record MatrixRow (s t : List Float) (i at n w : ℕ) : Type 0 where
+  pub entries : (k : ℕ) → k < i + 1 → getD t (at + k) nan ≡ gramAt s (k * n) (i * n) w n
+  pub kept : Kept s t at (at + (i + 1))
 
+-- the matrix, its lower triangle at a
 pub record Matrix (s t : List Float) (n rows a w : ℕ) : Type 0 where
-  pub matrix : part t a (rows * rows) ≡ normal (part s 0 (rows * n)) (part s w n) n rows
-  pub kept : Kept s t a (a + rows * rows)
+  pub matrix : spread (part t a (triangle rows)) rows ≡ normal (part s 0 (rows * n)) (part s w n) n rows
+  pub kept : Kept s t a (a + triangle rows)
 
 -- k doubles from a on, copied to b on
 pub record Copied (s t : List Float) (a b k : ℕ) : Type 0 where
   pub copy : part t b k ≡ part s a k
   pub kept : Kept s t b (b + k)
+
+-- row i of the matrix right of the diagonal, in the row at b: column i of the triangle at a
+pub record Across (s t : List Float) (a b i rows : ℕ) : Type 0 where
+  pub entries : (k : ℕ) → i < k → k < rows → getD t (b + k) nan ≡ getD s (a + triangle k + i) nan
+  pub kept : Kept s t (b + (i + 1)) (b + rows)
+
+-- the whole matrix at b, its lower triangle at a
+pub record Spread (s t : List Float) (a b rows : ℕ) : Type 0 where
+  pub square : part t b (rows * rows) ≡ spread (part s a (triangle rows)) rows
+  pub kept : Kept s t b (b + rows * rows)
 
 -- d added to the diagonal of the matrix at a
 pub record Damped (s t : List Float) (a rows : ℕ) (d : Float) : Type 0 where

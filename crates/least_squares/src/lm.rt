@@ -1,13 +1,14 @@
 // lm.rs: sums, slopes' matrix, damping and the step, over parts of the lent scratch. `specs/Lm.antt` has the definitions.
 
 ghost use mathlib.Core.Path.{_≡_};
-ghost use Prim.Native.Nat.{ℕ, _+_, _*_, _-_, _≤_, _<_, min, max};
-ghost use lib.ListN.{length, getD, set};
+ghost use Prim.Native.Nat.{_+_, _*_, _-_, _≤_, _<_, min, max};
+ghost use lib.ListN.{length};
 ghost use Rattle.numbers.specs.MaxAbs as largest;
-ghost use Rattle.least_squares.specs.Memory.{part, Kept};
-ghost use lib.Ieee.{nan};
+ghost use Rattle.least_squares.specs.Memory.{part};
 ghost use Rattle.least_squares.specs.Lm as spec;
+ghost use Rattle.least_squares.specs.Triangle.{triangle, spread};
 ghost use Rattle.least_squares.specs.LmPosts.{MatrixRow, Matrix, Copied, Damped, Stepped};
+use crate::triangle::places;
 
 // From m on: infinity for a row that is not finite, else the larger of m and its magnitude.
 pub fn max_abs_step(m: f64, a: f64) -> f64
@@ -56,49 +57,42 @@ fn gram(s: &[f64], i: usize, k: usize, w: usize, n: usize) -> f64
     t
 }
 
-// Row i of J W⁻¹ Jᵀ, the slopes at 0, the matrix at a, the weights at w. What stands left of the diagonal is copied from above it.
-fn matrix_row(s: &mut [f64], i: usize, n: usize, rows: usize, a: usize, w: usize)
-    requires { ⌜ i < rows ⌝ }
-    requires { ⌜ (rows ≤ 800) × (n ≤ 384) ⌝ }
-    requires { ⌜ rows * n ≤ a ⌝ }
-    requires { ⌜ a + rows * rows ≤ w ⌝ }
+// Row i of J W⁻¹ Jᵀ up to the diagonal, at `at`: the slopes at 0, the weights at w. In each product the row with the smaller number comes first.
+fn matrix_row(s: &mut [f64], i: usize, at: usize, n: usize, w: usize)
+    requires { ⌜ (i < 800) × (n ≤ 384) ⌝ }
+    requires { ⌜ i * n + n ≤ at ⌝ }
+    requires { ⌜ at + (i + 1) ≤ w ⌝ }
     requires { ⌜ w + n ≤ length (now s) ⌝ }
-    requires { ⌜ ((k : ℕ) → k < i → getD (now s) (a + k * rows + i) nan ≡ spec.normalAt (part (now s) 0 (rows * n)) (part (now s) w n) n k i) ⌝ }
-    ensures { λ _. ⌜ MatrixRow (now (s .entry)) (now (s .exit)) i n rows a w ⌝ }
+    ensures { λ _. ⌜ MatrixRow (now (s .entry)) (now (s .exit)) i at n w ⌝ }
 {
-    let at = a + i * rows;
     let row = i * n;
-    for k in 0..rows {
-        if k < i {
-            s[at + k] = s[a + k * rows + i];
-        } else {
-            s[at + k] = gram(s, row, k * n, w, n);
-        }
+    for k in 0..i + 1 {
+        s[at + k] = gram(s, k * n, row, w, n);
     }
 }
 
-// J W⁻¹ Jᵀ: the slopes stand in the first places, the matrix directly behind them, the inverse weights directly behind the matrix.
+// J W⁻¹ Jᵀ, of which the lower triangle is formed: the slopes stand in the first places, the triangle directly behind them, the inverse weights directly behind it.
 pub fn matrix(s: &mut [f64], n: usize, rows: usize)
     requires { ⌜ (rows ≤ 800) × (n ≤ 384) ⌝ }
-    requires { ⌜ rows * n + rows * rows + n ≤ length (now s) ⌝ }
-    ensures { λ _. ⌜ Matrix (now (s .entry)) (now (s .exit)) n rows (rows * n) (rows * n + rows * rows) ⌝ }
+    requires { ⌜ rows * n + triangle rows + n ≤ length (now s) ⌝ }
+    ensures { λ _. ⌜ Matrix (now (s .entry)) (now (s .exit)) n rows (rows * n) (rows * n + triangle rows) ⌝ }
 {
     let a = rows * n;
-    let w = a + rows * rows;
+    let w = a + places(rows);
     for i in 0..rows {
-        matrix_row(s, i, n, rows, a, w);
+        matrix_row(s, i, a + places(i), n, w);
     }
 }
 
-// The largest entry of the diagonal of the matrix from a on, at least 1e-12.
+// The largest entry of the diagonal of the matrix with the lower triangle from a on, at least 1e-12.
 pub fn diag_max(s: &[f64], a: usize, rows: usize) -> f64
     requires { ⌜ rows ≤ 800 ⌝ }
-    requires { ⌜ a + rows * rows ≤ length (now s) ⌝ }
-    ensures { λ r. ⌜ r ≡ spec.diagMax (part (now (s .entry)) a (rows * rows)) rows ⌝ }
+    requires { ⌜ a + triangle rows ≤ length (now s) ⌝ }
+    ensures { λ r. ⌜ r ≡ spec.diagMax (spread (part (now (s .entry)) a (triangle rows)) rows) rows ⌝ }
 {
     let mut m = 0.0;
     for i in 0..rows {
-        m = numbers::max(m, s[a + i * rows + i]);
+        m = numbers::max(m, s[a + places(i) + i]);
     }
     numbers::max(m, 1e-12)
 }

@@ -1,6 +1,6 @@
 -- Which number a call gives, or 0 for none, for any bytes, numbers and lengths of lent memory. Document 01, "What a call says", the table of refusals and the order of
 -- its tests: 1 to 7 of the sheet, and document 02's 14, then 13, 8, 11, 12, document 02's 15 and 16, 10, 9. Definitions only.
-use Prim.Native.Nat.{ℕ, _+_, _*_}
+use Prim.Native.Nat.{ℕ, _+_, _*_, _/_}
 use mathlib.Core.Bool.{Bool, true, _&&_, _||_}
 use mathlib.Core.List.{List}
 use lib.ListN.{length}
@@ -20,12 +20,13 @@ use Rattle.refusals.specs.SceneAt.{sceneAt}
 abbrev pub rowsIn : Scene → ℕ
 rowsIn sc = length (rowsOf sc (listOf startAt (unknowns sc)))
 
+-- document 02, 7/14: a whole square and half of one
 abbrev pub solveScratch : List ℕ → ℕ
 solveScratch s =
     let sc = sceneAt s in
     let R = rowsIn sc in
     let n = unknowns sc in
-    R * n + 2 * (R * R) + 8 * R + 8 * n + 32 * bodiesOf s
+    R * n + R * R + R * (R + 1) / 2 + 8 * R + 8 * n + 32 * bodiesOf s
 
 abbrev pub dofScratch : List ℕ → ℕ
 dofScratch s =

@@ -1,5 +1,6 @@
 // How many doubles of scratch `solve` and `dof` need and a running state has, for a sheet that passes tests 1 to 7 and 14.
 
+use least_squares::triangle::places;
 use records::record::u16_at;
 use scene::scene::Scene;
 use scene::scene::scene_of;
@@ -20,14 +21,14 @@ pub fn scene_in(s: &[u8]) -> Scene
     scene_of(s, 24, m, 24 + 136 * m, k)
 }
 
-// What both figures are: the square is R² for `solve` and n² for `dof`.
-fn figure(rows: usize, n: usize, m: usize, square: usize) -> usize
+// What both figures are: the squares are R²+R(R+1)/2 for `solve` and 2n² for `dof`.
+fn figure(rows: usize, n: usize, m: usize, squares: usize) -> usize
     requires { ⌜ (rows ≤ 896) × (n ≤ 384) ⌝ }
-    requires { ⌜ (m ≤ 64) × (square ≤ 802816) ⌝ }
+    requires { ⌜ (m ≤ 64) × (squares ≤ 1605632) ⌝ }
     requires { ⌜ rows * n ≤ 344064 ⌝ }
-    ensures { λ r. ⌜ r ≡ rows * n + 2 * square + 8 * rows + 8 * n + 32 * m ⌝ }
+    ensures { λ r. ⌜ r ≡ rows * n + squares + 8 * rows + 8 * n + 32 * m ⌝ }
 {
-    rows * n + 2 * square + 8 * rows + 8 * n + 32 * m
+    rows * n + squares + 8 * rows + 8 * n + 32 * m
 }
 
 pub fn solve_scratch(s: &[u8]) -> usize
@@ -38,7 +39,7 @@ pub fn solve_scratch(s: &[u8]) -> usize
     let rows = c.rows;
     let n = c.n;
     let m = c.m;
-    figure(rows, n, m, rows * rows)
+    figure(rows, n, m, rows * rows + places(rows))
 }
 
 pub fn dof_scratch(s: &[u8]) -> usize
@@ -49,7 +50,7 @@ pub fn dof_scratch(s: &[u8]) -> usize
     let rows = c.rows;
     let n = c.n;
     let m = c.m;
-    figure(rows, n, m, n * n)
+    figure(rows, n, m, 2 * (n * n))
 }
 
 pub fn state_length(s: &[u8]) -> usize

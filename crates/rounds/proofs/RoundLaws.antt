@@ -12,6 +12,7 @@ use Rattle.numbers.specs.Double.{isFinite}
 use borrow.Rule.Slice.PartMut.{putMid}
 use Rattle.least_squares.specs.Memory.{part, Kept}
 use Rattle.least_squares.specs.Lm.{State, Tried, norm2, jacobian, normal, stiffer, softer, judged, stepped, stepWith, trial, trials, oneRound}
+use Rattle.least_squares.specs.Triangle.{triangle, spread}
 use Rattle.least_squares.specs.LmPosts.{Matrix}
 use Rattle.scene.specs.Solve.{Scene, rowsOf}
 use Rattle.scene.specs.Scene.{Slopes}
@@ -193,20 +194,21 @@ pub record Formed (c : SceneStruct) (p : PartsStruct) (s t : List Float) : Type 
   pub kept : Kept s t (p .matrix) (p .weights)
 
 pub matrix-lent : (c : SceneStruct) (p : PartsStruct) (s q : List Float) → Arranged c p (length s)
-    → Matrix (take (length s - p .slopes) (drop (p .slopes) s)) q (c .n) (c .rows) (c .rows * c .n) (c .rows * c .n + c .rows * c .rows)
+    → Matrix (take (length s - p .slopes) (drop (p .slopes) s)) q (c .n) (c .rows) (c .rows * c .n) (c .rows * c .n + triangle (c .rows))
     → Formed c p s (putMid (p .slopes) (length s - p .slopes) s q)
 matrix-lent c p s q at g =
     let j = p .slopes in
     let h : j ≤ length s = omega arith in
     let m : j + c .rows * c .n ≡ p .matrix = at .slopes in
-    let w : j + (c .rows * c .n + c .rows * c .rows) ≡ p .weights = omega (arith, at .slopes, at .matrix) in
-    let r : Matrix (drop j s) q (c .n) (c .rows) (c .rows * c .n) (c .rows * c .n + c .rows * c .rows) = rw (← length-drop j s, take-length) at g in
+    let w : j + (c .rows * c .n + triangle (c .rows)) ≡ p .weights = omega (arith, at .slopes, at .matrix) in
+    let r : Matrix (drop j s) q (c .n) (c .rows) (c .rows * c .n) (c .rows * c .n + triangle (c .rows)) = rw (← length-drop j s, take-length) at g in
     rw (put-tail j s q h)
     (record {
       matrix =
-          ap (λ (o : ℕ). part (take j s ++ q) o (c .rows * c .rows)) (sym m) ∙ tail-part j s q (c .rows * c .n) (c .rows * c .rows) h ∙ r .matrix
-          ∙ ap (λ (l : List Float). normal (slopesIn c p s) (take (c .n) l) (c .n) (c .rows)) (drop-drop (c .rows * c .n + c .rows * c .rows) j s ∙ ap (λ (o : ℕ). drop o s) w);
-      kept = rw (m, w) at (kept-tail j s q (c .rows * c .n) (c .rows * c .n + c .rows * c .rows) h (r .kept));
+          ap (λ (l : List Float). spread l (c .rows)) (ap (λ (o : ℕ). part (take j s ++ q) o (triangle (c .rows))) (sym m) ∙ tail-part j s q (c .rows * c .n) (triangle (c .rows)) h)
+          ∙ r .matrix
+          ∙ ap (λ (l : List Float). normal (slopesIn c p s) (take (c .n) l) (c .n) (c .rows)) (drop-drop (c .rows * c .n + triangle (c .rows)) j s ∙ ap (λ (o : ℕ). drop o s) w);
+      kept = rw (m, w) at (kept-tail j s q (c .rows * c .n) (c .rows * c .n + triangle (c .rows)) h (r .kept));
     })
 
 -- what the filling of slopes is lent is long enough
@@ -216,7 +218,7 @@ apart-lent c p s at =
     record { x = omega arith; slopes = omega arith; next = omega arith; ahead = omega arith; behind = omega arith; poses = omega arith }
 
 pub matrix-room : (c : SceneStruct) (p : PartsStruct) (s : List Float) → Arranged c p (length s)
-    → c .rows * c .n + c .rows * c .rows + c .n ≤ length (take (length s - p .slopes) (drop (p .slopes) s))
+    → c .rows * c .n + triangle (c .rows) + c .n ≤ length (take (length s - p .slopes) (drop (p .slopes) s))
 matrix-room c p s at =
     let e : length (take (length s - p .slopes) (drop (p .slopes) s)) ≡ length s - p .slopes = length-take-le (length s - p .slopes) (drop (p .slopes) s) (simp length-drop (omega arith)) in
     omega arith

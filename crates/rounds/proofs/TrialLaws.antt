@@ -11,7 +11,8 @@ use lib.Seq.{take-length, drop-drop}
 use Rattle.numbers.specs.Double.{isFinite}
 use Rattle.least_squares.specs.Memory.{part, Kept}
 use Rattle.least_squares.specs.Lm.{norm2, diagMax, dampTo, solveDense, stepped, stiffer, softer, judged, stepWith, trial}
-use Rattle.least_squares.specs.LmPosts.{Copied, Damped, Stepped}
+use Rattle.least_squares.specs.LmPosts.{Copied, Spread, Damped, Stepped}
+use Rattle.least_squares.specs.Triangle.{triangle, spread}
 use Rattle.least_squares.specs.Dense.{given, Dense}
 use Rattle.scene.specs.Scene.{RowsAt}
 use Rattle.scene.specs.Solve.{Scene, rowsOf}
@@ -52,7 +53,7 @@ step-taken c p s u t size h a b =
           first = below (p .first) (c .n) (omega arith) ∙ kept-part-below s u (p .x) (p .x + c .n) (p .first) (c .n) (omega arith) (a .kept);
         };
         slopes = between (p .slopes) (c .rows * c .n) (omega arith) (omega arith);
-        matrix = between (p .matrix) (c .rows * c .rows) (omega arith) (omega arith);
+        matrix = ap (λ (l : List Float). spread l (c .rows)) (between (p .matrix) (triangle (c .rows)) (omega arith) (omega arith));
       };
     }
   where
@@ -74,7 +75,7 @@ rest-lent a w q n ok h = rw (← length-drop a w, take-length) at h
 
 module _ (c : SceneStruct) (p : PartsStruct) (s u v w q : List Float) (mu most : Float) (ok : Bool) (size : ℕ) (fits : Arranged c p size) (long : p .damped ≤ length w)
     (largest : most ≡ diagMax (matrixIn c p s) (c .rows))
-    (copied : Copied s u (p .matrix) (p .damped) (c .rows * c .rows))
+    (whole : Spread s u (p .matrix) (p .damped) (c .rows))
     (damped : Damped u v (p .damped) (c .rows) (mul binary64 mu most))
     (moved : Copied v w (p .rows) (p .right) (c .rows))
     (solved : Dense (drop (p .damped) w) q (c .rows) ok) where
@@ -82,14 +83,14 @@ module _ (c : SceneStruct) (p : PartsStruct) (s u v w q : List Float) (mu most :
   matrix-there =
       kept-part-below v w (p .right) (p .right + c .rows) (p .damped) (c .rows * c .rows) (omega arith) (moved .kept)
       ∙ damped .matrix
-      ∙ (λ j. dampTo (copied .copy j) (c .rows) (mul binary64 mu (largest j)) (c .rows))
+      ∙ (λ j. dampTo (whole .square j) (c .rows) (mul binary64 mu (largest j)) (c .rows))
 
   rows-there : part (drop (p .damped) w) (c .rows * c .rows) (c .rows) ≡ rowsIn c p s
   rows-there =
       ap (take (c .rows)) (drop-drop (c .rows * c .rows) (p .damped) w ∙ ap (λ (o : ℕ). drop o w) (fits .damped))
       ∙ moved .copy
       ∙ kept-part-above u v (p .damped) (p .damped + c .rows * c .rows) (p .rows) (c .rows) (omega arith) (damped .kept)
-      ∙ kept-part-above s u (p .damped) (p .damped + c .rows * c .rows) (p .rows) (c .rows) (omega arith) (copied .kept)
+      ∙ kept-part-above s u (p .damped) (p .damped + c .rows * c .rows) (p .rows) (c .rows) (omega arith) (whole .kept)
 
   same-answer : solveDense (part (drop (p .damped) w) 0 (c .rows * c .rows)) (part (drop (p .damped) w) (c .rows * c .rows) (c .rows)) (c .rows) ≡ answerIn c p s mu
   same-answer = λ j. solveDense (matrix-there j) (rows-there j) (c .rows)
@@ -103,7 +104,7 @@ module _ (c : SceneStruct) (p : PartsStruct) (s u v w q : List Float) (mu most :
         told = solved .told ∙ ap given same-answer;
         answer = λ y e. ap (λ (o : ℕ). part (take (p .damped) w ++ q) o (c .rows)) (sym (fits .damped)) ∙ tail-part (p .damped) w q (c .rows * c .rows) (c .rows) long ∙ solved .answer y (same-answer ∙ e);
         kept =
-            kept-trans s u (take (p .damped) w ++ q) _ _ (wider s u _ _ (omega arith) (omega arith) (copied .kept))
+            kept-trans s u (take (p .damped) w ++ q) _ _ (wider s u _ _ (omega arith) (omega arith) (whole .kept))
             (kept-trans u v (take (p .damped) w ++ q) _ _ (wider u v _ _ (omega arith) (omega arith) (damped .kept))
             (kept-trans v w (take (p .damped) w ++ q) _ _ (wider v w _ _ (omega arith) (omega arith) (moved .kept))
             (wider w (take (p .damped) w ++ q) _ _ (omega arith) (omega arith) (kept-tail (p .damped) w q 0 (c .rows * c .rows + c .rows) long (solved .kept)))));
@@ -152,7 +153,7 @@ answered-stands c p s t mu ok size h a =
           first = below (p .first) (c .n) (omega arith);
         };
         slopes = below (p .slopes) (c .rows * c .n) (omega arith);
-        matrix = below (p .matrix) (c .rows * c .rows) (omega arith);
+        matrix = ap (λ (l : List Float). spread l (c .rows)) (below (p .matrix) (triangle (c .rows)) (omega arith));
       };
     }
   where
@@ -174,7 +175,7 @@ advanced-stands sc c p s t cost size h a =
           first = below (p .first) (c .n) (omega arith);
         };
         slopes = below (p .slopes) (c .rows * c .n) (omega arith);
-        matrix = below (p .matrix) (c .rows * c .rows) (omega arith);
+        matrix = ap (λ (l : List Float). spread l (c .rows)) (below (p .matrix) (triangle (c .rows)) (omega arith));
       };
     }
   where

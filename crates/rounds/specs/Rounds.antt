@@ -9,6 +9,7 @@ use lib.ListN.{length, take}
 use lib.Ieee.{Float, binary64, mul, le}
 use Rattle.numbers.specs.MaxAbs.{maxAbs}
 use Rattle.least_squares.specs.Memory.{part, Kept}
+use Rattle.least_squares.specs.Triangle.{triangle, spread}
 use Rattle.least_squares.specs.Dense.{given}
 use Rattle.least_squares.specs.Lm.{State, Tried, Outcome, norm2, diagMax, dampTo, solveDense, stepped, trial, trials, oneRound}
 use Rattle.scene.specs.Solve.{Scene, rowsOf}
@@ -22,8 +23,9 @@ use Rattle.rounds.specs.declared.rounds.RunEnd.{RunEnd as RunEndStruct}
 abbrev pub slopesIn : SceneStruct → PartsStruct → List Float → List Float
 slopesIn c p s = part s (p .slopes) (c .rows * c .n)
 
+-- the whole matrix, of which the lower triangle stands at `matrix`
 abbrev pub matrixIn : SceneStruct → PartsStruct → List Float → List Float
-matrixIn c p s = part s (p .matrix) (c .rows * c .rows)
+matrixIn c p s = spread (part s (p .matrix) (triangle (c .rows))) (c .rows)
 
 abbrev pub weightsIn : SceneStruct → PartsStruct → List Float → List Float
 weightsIn c p s = part s (p .weights) (c .n)

@@ -3,6 +3,7 @@
 ghost use mathlib.Core.Path.{_≡_};
 ghost use Prim.Native.Nat.{_≤_};
 ghost use Rattle.rounds.specs.Parts.{solveParts};
+use least_squares::triangle::places;
 use scene::scene::Scene;
 use slopes::anew_slopes::SlopeParts;
 
@@ -31,7 +32,7 @@ pub fn solve_parts(scene: Scene) -> SolveParts
     let n = scene.n;
     let slopes = n + n;
     let matrix = slopes + rows * n;
-    let weights = matrix + rows * rows;
+    let weights = matrix + places(rows);
     let damped = weights + n;
     let right = damped + rows * rows;
     let at = right + rows;

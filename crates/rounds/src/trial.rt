@@ -17,6 +17,7 @@ use least_squares::lm::diag_max;
 use least_squares::lm::max_abs;
 use least_squares::lm::norm2;
 use least_squares::lm::step;
+use least_squares::triangle::spread;
 use scene::scene::Scene;
 use scene::scene::rows_at;
 
@@ -58,7 +59,7 @@ fn answer(s: &mut [f64], scene: Scene, p: SolveParts, mu: f64) -> bool
 {
     let rows = scene.rows;
     let most = diag_max(s, p.matrix, rows);
-    copy(s, p.matrix, p.damped, rows * rows);
+    spread(s, p.matrix, p.damped, rows);
     damp(s, p.damped, rows, mu * most);
     copy(s, p.rows, p.right, rows);
     let at = p.damped;

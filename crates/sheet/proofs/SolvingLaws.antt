@@ -17,6 +17,7 @@ use Rattle.scene.specs.Solve.{Parameters, FINEST, COARSEST, fromTo, inRange}
 use Rattle.scene.specs.declared.scene.Scene.{Scene as SceneStruct}
 use Rattle.placement.specs.Answer.{Filled}
 use Rattle.closeness.proofs.HowCloselyLaws.{how-closely, rounds-end}
+use Rattle.least_squares.specs.Triangle.{triangle}
 use Rattle.rounds.specs.Parts.{need}
 use Rattle.format.specs.Format.{bodiesOf, relationsOf}
 use Rattle.refusals.specs.SceneAt.{sceneAt}
@@ -83,6 +84,7 @@ few-rows p h =
 
 module _ (s : List ℕ) (c : SceneStruct) (made : SceneMade s 24 (bodiesOf s) (24 + 136 * bodiesOf s) (relationsOf s) c) where
   pub need-is : need c ≡ solveScratch s
+  unfolding triangle
   need-is = rw (row-count s c made, unknown-count s c made, made .body-count)
 
   abbrev pub Asked : Parameters → ℕ → ℕ → ℕ → ℕ → Type 0

@@ -271,7 +271,7 @@ fn replay(path: &[u8], k: List, scratch: &mut [f64]) {
     list::close(path, fd, answers, wrong);
 }
 
-// One scratch serves all calls and is never cleared. It is as long as the lists ask; 800 rows would ask `solve` for 1.3 million doubles, more than a stack of 8 MB holds.
+// One scratch serves all calls and is never cleared. It is as long as the lists ask; 800 rows would ask `solve` for 971,712 doubles, nearly all of a stack of 8 MB.
 fn replay_all(scratch: &mut [f64; 300_000]) {
     replay(b"sheets_refused.bin", List::Sheets, scratch);
     replay(b"sheets_fields.bin", List::Fields, scratch);

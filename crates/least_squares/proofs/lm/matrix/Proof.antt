@@ -1,19 +1,22 @@
--- `least_squares::lm::matrix` meets its contract. The invariant: the first i rows are the definition's for the slopes and weights at entry, and nothing outside the
--- matrix is changed. So the next row has the same slopes and weights (`same-normal`) and finds above the diagonal what it copies; all rows are the matrix (`rows-all`).
--- The measure is the rows to come. Assumes nothing.
-use Rattle.least_squares.proofs.LmLaws.{Entries, rows-step, rows-all, same-normal}
-use Rattle.least_squares.proofs.MemoryLaws.{kept-refl}
-use Rattle.least_squares.specs.Memory.{Kept}
-use lib.ListN.{length}
+-- `least_squares::lm::matrix` meets its contract. The invariant: the first i rows up to the diagonal are the definition's for the slopes and weights at entry, and nothing outside
+-- the triangle is changed, so that the next row has the same slopes and weights (`lower-step`). From all rows the whole matrix is read (`lower-all`). The measure is the
+-- rows to come. Assumes nothing.
+use mathlib.Core.Path.{_≡_}
+use Prim.Native.Nat.{ℕ, _+_, _*_, _≤_, _-_}
 use native.Mathlib.Nat.{not-suc-le-zero}
 use native.Mathlib.Omega.{arith}
-use mathlib.Core.Path.{_≡_, sym, _∙_}
-use Prim.Native.Nat.{ℕ, _+_, _*_, _≤_, _<_, _-_}
+use Rattle.least_squares.specs.Lm.{normalAt}
+use Rattle.least_squares.specs.Memory.{part, Kept}
+use Rattle.least_squares.specs.Triangle.{triangle}
+use Rattle.least_squares.proofs.MemoryLaws.{kept-refl}
+use Rattle.least_squares.proofs.TriangleLaws.{triangle-next, triangle-more}
+use Rattle.least_squares.proofs.LmLaws.{Lower, row-fits, lower-step, lower-all}
 use Rattle.least_squares.proofs.lm.matrix.Statement.{statement}
 use Rattle.least_squares.proofs.lm.matrix.Tie as tie
 
 abbrev Inv-loop : tie.InvT-loop
-Inv-loop s₀ n rows a w i₀ s i = (i ≤ rows) × Kept s₀ s a (a + rows * rows) × Entries s₀ s i n rows a w
+Inv-loop s₀ n rows a w i₀ s i =
+    (i ≤ rows) × (w ≡ a + triangle rows) × Kept s₀ s a (a + triangle rows) × Lower s a (normalAt (part s₀ 0 (rows * n)) (part s₀ (a + triangle rows) n) n) i
 
 abbrev μ-loop : tie.MeasureT-loop
 μ-loop s₀ n rows a w i₀ s i = rows - i
@@ -21,21 +24,38 @@ abbrev μ-loop : tie.MeasureT-loop
 mul-a : tie.Need-mul-a Inv-loop μ-loop
 mul-a c = omega arith
 
-mul-w : tie.Need-mul-w Inv-loop μ-loop
-mul-w c = omega arith
+places-requires : tie.Need-places-requires Inv-loop μ-loop
+places-requires c κs = omega arith
 
 add-w : tie.Need-add-w Inv-loop μ-loop
-add-w c = omega arith
+add-w c = let e = c .places .ensures in omega arith
 
 loop-holds : tie.Need-loop-holds Inv-loop μ-loop
-loop-holds c = (omega arith, kept-refl _ _ _, λ p k h l. absurd (not-suc-le-zero h))
+loop-holds c = let e = c .places .ensures in (omega arith, omega arith, kept-refl _ _ _, λ p k h l. absurd (not-suc-le-zero h))
+
+places-requires-2 : tie.Need-places-requires-2 Inv-loop μ-loop
+places-requires-2 c κs = omega arith
+
+-- row i of the triangle ends where the triangle does, at the latest, and row i of the slopes where the slopes do
+record Inside (i n rows : ℕ) : Type 0 where
+  pub next : triangle (i + 1) ≡ triangle i + (i + 1)
+  pub last : triangle (i + 1) ≤ triangle rows
+  pub slopes : i * n + n ≤ rows * n
+
+inside : (c : tie.In-loop Inv-loop μ-loop) → Inside (c .before .loop .i) (c .before .before .before .before .args .n) (c .before .before .before .before .args .rows)
+inside c =
+    let i = c .before .loop .i in
+    let g = c .before .before .before .before .args in
+    record { next = triangle-next i; last = triangle-more (i + 1) (g .rows) (omega arith); slopes = row-fits i (g .n) (g .rows) (omega arith) }
+
+add-matrix-row : tie.Need-add-matrix-row Inv-loop μ-loop
+add-matrix-row c = let e = c .places2 .ensures in omega (arith, inside (c .before .before))
 
 matrix-row-requires : tie.Need-matrix-row-requires Inv-loop μ-loop
 matrix-row-requires c κs =
-    let st = c .before .before in
-    let g = st .before .before .args in
-    let z = st .loop .inv .1 .size in
-    (omega arith, (omega arith, (omega arith, (omega arith, (omega arith, λ k h. st .loop .inv .2 k (st .loop .i) h (omega arith) ∙ sym (same-normal (g .s .now) (st .loop .s) (g .n) (g .rows) (g .rows * g .n) (g .rows * g .n + g .rows * g .rows) k (st .loop .i) (omega arith) (omega arith) (st .loop .inv .1)))))))
+    let e = c .places2 .ensures in
+    let z = c .before .before .before .loop .inv .2 .size in
+    omega (arith, inside (c .before .before))
 
 add-i : tie.Need-add-i Inv-loop μ-loop
 add-i c = omega arith
@@ -45,21 +65,21 @@ loop-less c = omega arith
 
 loop-again : tie.Need-loop-again Inv-loop μ-loop
 loop-again c =
-    let st = c .before .before .before .before .before in
-    let g = st .before .before .args in
-    let r = rows-step (g .s .now) (st .loop .s) (c .before .before .matrix-row .last .0) (st .loop .i) (g .n) (g .rows) (g .rows * g .n) (g .rows * g .n + g .rows * g .rows) (omega arith) (omega arith) (omega arith) (st .loop .inv .1) (st .loop .inv .2) (c .before .before .matrix-row .ensures) in
-    (omega arith, r .0, r .1)
+    let st = c .before .before .before .before .before .before in
+    let g = c .before .before .before .before .before .before .before .before .before .args in
+    let row = rw (c .before .before .before .places2 .ensures, st .loop .inv .1) at (c .before .before .matrix-row .ensures) in
+    let r = lower-step (g .s .now) (st .loop .s) (c .before .before .matrix-row .last .0) (st .loop .i) (g .n) (g .rows) (g .rows * g .n) (g .rows * g .n + triangle (g .rows)) (omega arith) (omega arith) (omega arith) (st .loop .inv .2) (st .loop .inv .3) row in
+    (omega arith, st .loop .inv .1, r .0, r .1)
 
 same-length : tie.Need-same-length Inv-loop μ-loop
-same-length c = c .before .loop .inv .1 .size
+same-length c = c .before .loop .inv .2 .size
 
 returns : tie.Need-returns Inv-loop μ-loop
 returns c =
     let st = c .before in
-    let g = st .before .before .args in
+    let g = c .before .before .before .before .args in
     let e : st .loop .i ≡ g .rows = omega arith in
-    let z = st .loop .inv .1 .size in
-    record { matrix = rows-all (g .s .now) (st .loop .s) (g .n) (g .rows) (g .rows * g .n) (g .rows * g .n + g .rows * g .rows) (omega arith) (rw e at (st .loop .inv .2)); kept = st .loop .inv .1 }
+    record { matrix = lower-all (g .s .now) (st .loop .s) (g .n) (g .rows) (g .rows * g .n) (g .rows * g .n + triangle (g .rows)) (rw e at (st .loop .inv .3)); kept = st .loop .inv .2 }
 
 pub matrix-spec : {M : Type 1} → statement M
 matrix-spec =
@@ -68,9 +88,11 @@ matrix-spec =
     Inv-loop
     μ-loop
     mul-a
-    mul-w
+    places-requires
     add-w
     loop-holds
+    places-requires-2
+    add-matrix-row
     matrix-row-requires
     add-i
     loop-less

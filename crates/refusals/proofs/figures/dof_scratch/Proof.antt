@@ -15,6 +15,9 @@ small c = let o = c .before .before in few (o .args .s .now) (c .scene-in .resul
 mul-figure : tie.Need-mul-figure
 mul-figure c = let z = small c in omega arith
 
+mul-figure-2 : tie.Need-mul-figure-2
+mul-figure-2 c = let z = small c in omega arith
+
 figure-requires : tie.Need-figure-requires
 figure-requires c κs = let z = small c in ((z .rows, z .unknowns), ((z .bodies, omega arith), z .slopes))
 
@@ -27,4 +30,4 @@ returns c =
     rw (c .figure .ensures, row-count s r made, unknown-count s r made, made .body-count)
 
 pub dof-scratch-spec : {M : Type 1} → statement M
-dof-scratch-spec = tie.close (tie.spec scene-in-requires mul-figure figure-requires returns)
+dof-scratch-spec = tie.close (tie.spec scene-in-requires mul-figure mul-figure-2 figure-requires returns)

@@ -1,6 +1,10 @@
--- `refusals::figures::solve_scratch`: the scene's counts are those of the definition (`row-count`, `unknown-count`), and so small that the figure fits (`few`). Assumes nothing.
+-- `refusals::figures::solve_scratch`: the scene's counts are those of the definition (`row-count`, `unknown-count`), and so small that the figure fits (`few`, `triangle-few`). Assumes nothing.
+use mathlib.Core.Path.{_≡_, _∙_}
+use Prim.Native.Nat.{ℕ, _+_, _≤_}
 use native.Mathlib.Omega.{arith}
 use borrow.Author.Needs.{needs}
+use Rattle.least_squares.specs.Triangle.{triangle}
+use Rattle.least_squares.proofs.TriangleLaws.{triangle-few}
 use Rattle.refusals.proofs.FigureLaws.{Few, few, row-count, unknown-count}
 use Rattle.refusals.proofs.figures.solve_scratch.Statement.{statement}
 use Rattle.refusals.proofs.figures.solve_scratch.Tie as tie
@@ -15,16 +19,34 @@ small c = let o = c .before .before in few (o .args .s .now) (c .scene-in .resul
 mul-figure : tie.Need-mul-figure
 mul-figure c = let z = small c in omega arith
 
+places-requires : tie.Need-places-requires
+places-requires c κs = small c .rows
+
+-- so many places has the triangle
+half : (c : tie.After-places) → let r = c .before .scene-in .result .rows in (c .places .result ≡ triangle r) × (triangle r ≤ 401856)
+half c = (c .places .ensures, triangle-few _ (small (c .before) .rows))
+
+add-figure : tie.Need-add-figure
+add-figure c = let z = small (c .before) in let h = half c in omega arith
+
 figure-requires : tie.Need-figure-requires
-figure-requires c κs = let z = small c in ((z .rows, z .unknowns), ((z .bodies, omega arith), z .slopes))
+figure-requires c κs =
+    let z = small (c .before) in
+    let h = half c in
+    ((z .rows, z .unknowns), ((z .bodies, omega arith), z .slopes))
+
+-- the squares added as one, or one after the other
+sums : (a b c d e f : ℕ) → a + (b + c) + d + e + f ≡ a + b + c + d + e + f
+sums a b c d e f = omega arith
 
 returns : tie.Need-returns
+unfolding triangle
 returns c =
-    let counted = c .before in
+    let counted = c .before .before in
     let s = counted .before .before .args .s .now in
     let r = counted .scene-in .result in
     let made = counted .scene-in .ensures in
-    rw (c .figure .ensures, row-count s r made, unknown-count s r made, made .body-count)
+    c .figure .ensures ∙ rw (c .before .places .ensures, sums, row-count s r made, unknown-count s r made, made .body-count)
 
 pub solve-scratch-spec : {M : Type 1} → statement M
-solve-scratch-spec = tie.close (tie.spec scene-in-requires mul-figure figure-requires returns)
+solve-scratch-spec = tie.close (tie.spec scene-in-requires mul-figure places-requires add-figure figure-requires returns)

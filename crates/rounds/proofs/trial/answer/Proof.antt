@@ -1,4 +1,4 @@
--- `rounds::trial::answer`: the matrix is copied and damped, the rows are copied behind it, and the scratch from the damped matrix on is lent to `solve_dense`. What that
+-- `rounds::trial::answer`: the whole matrix is laid out and damped, the rows are copied behind it, and the scratch from the damped matrix on is lent to `solve_dense`. What that
 -- leaves, put behind what stood before, is the answer's part of the whole scratch (`answer-is`). Assumes nothing.
 use mathlib.Core.Path.{_∙_}
 use Prim.Native.Nat.{_≤_}
@@ -13,17 +13,14 @@ use Rattle.rounds.proofs.trial.answer.Tie as tie
 diag-max-requires : tie.Need-diag-max-requires
 diag-max-requires c κs = search needs
 
-mul-copy : tie.Need-mul-copy
-mul-copy c = search needs
-
-copy-requires : tie.Need-copy-requires
-copy-requires c κs = search needs
+spread-requires : tie.Need-spread-requires
+spread-requires c κs = search needs
 
 damp-requires : tie.Need-damp-requires
 damp-requires c κs = search needs
 
-copy-requires-2 : tie.Need-copy-requires-2
-copy-requires-2 c κs = search needs
+copy-requires : tie.Need-copy-requires
+copy-requires c κs = search needs
 
 mul-solve-dense : tie.Need-mul-solve-dense
 mul-solve-dense c = search needs
@@ -48,15 +45,15 @@ returns c =
     let solving = c .before .before in
     let right = solving .before .before .before .before in
     let damping = right .before .before .before .before in
-    let copying = damping .before .before .before .before in
-    let most = copying .before .before in
+    let laying = damping .before .before .before .before in
+    let most = laying .before .before in
     let o = most .before .before .before in
     let g = o .args in
-    let w = right .copy2 .last .0 in
+    let w = right .copy .last .0 in
     let q = solving .solve-dense .last .0 in
-    let x = copying .copy .ensures in
+    let x = laying .spread .ensures in
     let y = damping .damp .ensures in
-    let z = right .copy2 .ensures in
+    let z = right .copy .ensures in
     let sizes = z .kept .size ∙ y .kept .size ∙ x .kept .size in
     let h : g .p .damped ≤ length w = omega arith in
     rw (put-tail (g .p .damped) w q h)
@@ -67,10 +64,9 @@ answer-spec =
     tie.close
     (tie.spec
     diag-max-requires
-    mul-copy
-    copy-requires
+    spread-requires
     damp-requires
-    copy-requires-2
+    copy-requires
     mul-solve-dense
     sub-solve-dense
     part-solve-dense-start
