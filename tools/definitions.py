@@ -23,7 +23,8 @@ for calls that solve by rounds those of a second program of ours over its rounds
               leaves all as it was; of every accepted one the same as of the solved ones, by its own tolerance, that the unknowns of
               the state lead to the poses, and, where the state is the caller's own, that its rows are those at the poses; how many
               rounds are done, which run it is and what of the state is carried over, wherever the page says it without the rounds
-              themselves; that by one set and drag the same rounds in other portions leave the same, and end in one state
+              themselves; that by one set and drag the same rounds in other portions leave the same, and end in one state; of both
+              lists, that calls of 2 rows or more are accepted with just the page's scratch, and refused with one double less
   written     crates/write_list/data/scenes_written.bin, our second program's: which number every scene gives that is lent for
               saving, and every byte of the sheet of each that is accepted; reading the sheet as laid out gives the number that the
               tests of its records give
@@ -164,6 +165,10 @@ class Parameter(Range):
             problem(f"{self.name}: the number without a choice is outside its range")
 
 
+# a call of `solve` of 2 rows or more: how much scratch it is lent over the page's, and the number that it gives
+AT_THE_FIGURE, ONE_SHORT = ("scratch", 0, 0), ("scratch", -1, 9)
+
+
 class Definitions:
     """The page as the script works with it."""
 
@@ -211,6 +216,8 @@ class Definitions:
             problem(f"the parameters are not {', '.join(SET)}")
         self.refusal, = self.said(r"a parameter that is a NaN or outside its range is refused by (\d+)\.", "what a parameter outside its range is refused by")
         self.scratch = self.written(r"is lent at least `([^`]+)` doubles of scratch;", "how much scratch there is at least")
+        if not all(self.page.value(self.scratch, {"n": 0.0, "m": 0.0, "R": float(rows)}).is_integer() for rows in range(8)):
+            problem("the scratch is no whole number of doubles")
         self.portion = Range("portion", True, *self.said(r"A portion is (\d+ to \d+) rounds\.", "how many rounds a portion has"))
         self.uncounted, *beside = self.said(r"that is not the sheet's, is refused by (\d+, after \d+ and before \d+);", "what a portion, or a count, is refused by")
         if sorted(self.given) != sorted({8, 9, 10, 11, 12, 13, self.refusal, self.uncounted}):
@@ -265,6 +272,11 @@ class Definitions:
         if at != size:
             problem(f"{name}: the fields end at {at}, and the page gives it {size} bytes")
         return at
+
+    def lent(self, sheet, scratch, number):
+        """Counts a call of `solve` by its scratch. With fewer than 2 rows a square is no more than its lower triangle."""
+        if sheet and sheet.rows > 1:
+            self.met["scratch", scratch - self.page.value(self.scratch, sheet.known), number] += 1
 
     def field(self, record, name):
         found = [f for f in self.fields[record] if f.name == name]
@@ -358,6 +370,9 @@ class Definitions:
         for p in [*self.parameters.values(), self.portion]:
             yield from (f"a call accepted with the {p.name} {value!r}" for value in p.accepted() if not self.met[p, bits(value)])
             yield from (f"a call refused for the {p.name} {value!r} alone" for value in p.refused() if not self.met[p, bits(value)])
+        for lent, said in (AT_THE_FIGURE, "accepted with just the page's scratch"), (ONE_SHORT, "refused with one double less"):
+            if not self.met[lent]:
+                yield f"a call of 2 rows or more {said}"
         for part in self.saving.parts:
             if not self.met[part]:
                 yield f"a scene {'refused' if part.idle else 'saved'} with {part} that is not 0"
@@ -1071,6 +1086,7 @@ def compare_parameters(d):
                 problem(f"{where}, {', '.join(f'{p.name} {value!r}' for p, value in chosen.items())}: {mine} by the page and {number} in the list")
                 continue
             numbers[number] += 1
+            d.lent(sheet, head[2], number)
             both.update(pair for pair in zip(order, order[1:]) if faults >= set(pair))
             bad = {p: value for p, value in chosen.items() if not p.holds(value)}
             if not number:
@@ -1258,6 +1274,7 @@ def compare_portions(d):
                     problem(f"{where}: {mine} by the page and {call.number} in the list")
                     break
                 numbers[mine] += 1
+                d.lent(sheet, call.lent[0], mine)
                 both.update(pair for pair in zip(order, order[1:]) if faults >= set(pair))
                 if not mine or alone == d.portion.name:
                     d.met[d.portion, bits(float(call.portion))] += 1
@@ -1288,6 +1305,7 @@ def compare_portions(d):
     print(f"portions: {sum(numbers.values())} of {count} calls as in {name}, by number {said}; {compared}; {compared.unknowns} unknowns that lead to the poses, {compared.rows} rows of one's own states")
     print("  calls by kind " + ", ".join(f"{kind}: {kinds[kind]}" for kind in KINDS))
     print("  relations by law " + ", ".join(f"{law}: {compared.laws[law]}" for law in d.counts))
+    print(f"  of 2 rows or more, with those of sheets_parameters.bin: accepted with just the page's scratch {d.met[AT_THE_FIGURE]}, refused with one double less {d.met[ONE_SHORT]}")
 
 
 def compare_written(d):

@@ -1,5 +1,5 @@
 // The calls on a sheet, answered by tenon: included over `tenon`, `tenon_max` and `tenon_gear`. Each place gives `gear_of`, the law of a gear.
-// A call's tests 13, 8, 11, 12, 15, 10, 9 and its answer as document 01 and request 5/14 lay them out.
+// A call's tests 13, 8, 11, 12, 15, 10, 9 and its answer as document 01 and requests 5/14 and 7/14 lay them out.
 
 use crate::answer::{Answer, Call, Set};
 use crate::sheet::{self, Sheet};
@@ -70,9 +70,10 @@ impl Scene {
     pub fn unknowns(&self) -> usize {
         solve::layout(&self.bodies, &self.rels).iter().flatten().count() * 6
     }
+    /// Request 7/14: a whole square of R by R, and the lower triangle of one.
     pub fn solve_scratch(&self) -> usize {
         let (r, n, m) = (self.rows(), self.unknowns(), self.bodies.len());
-        r * n + 2 * r * r + 8 * r + 8 * n + 32 * m
+        r * n + r * r + r * (r + 1) / 2 + 8 * r + 8 * n + 32 * m
     }
     pub fn dof_scratch(&self) -> usize {
         let (r, n, m) = (self.rows(), self.unknowns(), self.bodies.len());

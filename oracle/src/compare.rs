@@ -6,16 +6,17 @@ use crate::cover::Cover;
 use crate::edges;
 use crate::rng::Rng;
 use crate::sheet::{self, GROUND, Sheet};
-use crate::{generate, port, turns, whole, with_max01};
+use crate::{generate, port, trials, turns, whole, with_max01};
 use arcs::rule;
 use std::io::Write;
 use std::process::{Command, ExitStatus, Stdio};
 
 /// Every case of a seed: N valid sheets with calls that are accepted, some with calls near their limits too, and N damaged ones;
-/// then every field changed by itself, sheets at the limits, and joints of many turns. `ask` gives the Rust's answer; what was met is counted.
+/// then every field changed by itself, sheets at the limits, sheets of few rows, and joints of many turns. `ask` gives the Rust's answer; what was
+/// met is counted.
 fn cases(seed: u64, n: usize, mut ask: impl FnMut(&[u8], Call) -> Result<Answer, u32>) -> Cover {
     let (mut rng, mut cover) = (Rng(seed), Cover::new());
-    cover.want_lengths();
+    cover.want_lengths(&edges::ROW_COUNTS);
     cover.want_doubles();
     cover.want_turns();
     for i in 0..n {
@@ -66,6 +67,14 @@ fn cases(seed: u64, n: usize, mut ask: impl FnMut(&[u8], Call) -> Result<Answer,
         for call in generate::good_calls(&mut rng, &sheet) {
             let answer = ask(&bytes, call);
             cover.call(call, &answer);
+        }
+    }
+    for sheet in [0, 1, 2, 3].map(trials::of_many_rows) {
+        let bytes = sheet.bytes();
+        for call in generate::exact_calls(&sheet, &[GROUND]) {
+            let answer = ask(&bytes, call);
+            cover.call(call, &answer);
+            cover.lengths(&sheet, call, &answer);
         }
     }
     let mut rng = Rng(seed + 1);

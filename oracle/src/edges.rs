@@ -32,8 +32,47 @@ fn slices(sheet: &Sheet, call: Call) -> Vec<(&'static str, usize, usize, u32)> {
     }
 }
 
+/// The row counts that the scratch of `solve` is tried with. From 2 rows on a triangle with its diagonal is less than a square; of R and R + 1
+/// the one that is even can be halved.
+pub const ROW_COUNTS: [&str; 4] = ["no rows", "1 row", "an even number of rows", "an odd number of rows"];
+/// The largest sheets that it is tried with.
+pub const LARGEST: [&str; 2] = ["64 bodies and 128 relations", "800 rows"];
+
+/// The scratch of `solve` on a sheet: what it needs, what two squares would take, and the sizes that the sheet is of.
+pub struct Figure {
+    pub need: usize,
+    two_squares: usize,
+    sizes: Vec<&'static str>,
+}
+
+impl Figure {
+    pub fn of(sheet: &Sheet) -> Figure {
+        let rows = whole::rows(sheet);
+        let largest = [sheet.bodies.len() == MOST_BODIES && sheet.relations.len() == MOST_RELATIONS, rows == 800];
+        let mut sizes = vec![ROW_COUNTS[if rows < 2 { rows } else { 2 + rows % 2 }]];
+        sizes.extend(LARGEST.iter().zip(largest).filter(|(_, is)| *is).map(|(size, _)| *size));
+        Figure { need: whole::scratch(sheet).0, two_squares: whole::two_squares(sheet), sizes }
+    }
+    /// The kinds that must be met for a size: just what is needed, from 2 rows on too short for two squares, and one double less.
+    pub fn wanted(size: &str) -> [String; 2] {
+        let exact = if ROW_COUNTS[..2].contains(&size) { "exact" } else { "exact and too short for two squares" };
+        [format!("scratch {exact}, accepted, {size}"), format!("scratch one short, refused 9, {size}")]
+    }
+    /// The kinds that a call shows which is lent so much and gives a number.
+    pub fn shown(&self, lent: usize, number: u32) -> Vec<String> {
+        let how = match number {
+            0 if lent == self.need && lent < self.two_squares => "exact and too short for two squares, accepted",
+            0 if lent == self.need => "exact, accepted",
+            9 if lent + 1 == self.need => "one short, refused 9",
+            _ => return vec![],
+        };
+        self.sizes.iter().map(|size| format!("scratch {how}, {size}")).collect()
+    }
+}
+
 impl Cover {
-    pub fn want_lengths(&mut self) {
+    /// On sheets with these row counts.
+    pub fn want_lengths(&mut self, row_counts: &[&str]) {
         let lent = [
             Call::Snap { relation: 0, motion: 0 },
             Call::Solve { drag: GROUND, set: None, scratch: 0, poses: 0, frames: 0, errors: 0 },
@@ -45,6 +84,7 @@ impl Cover {
                 how.iter().for_each(|how| self.add(format!("{} {slice} {how}", call.name()), 0));
             }
         }
+        row_counts.iter().flat_map(|rows| Figure::wanted(rows)).for_each(|kind| self.add(format!("solve {kind}"), 0));
         self.add("solve with drag, another answer than without".into(), 0);
     }
     /// A slice one short counts where nothing else is.
@@ -59,6 +99,14 @@ impl Cover {
                 _ => continue,
             };
             self.add(format!("{} {slice} {how}", call.name()), 1);
+        }
+        self.scratch(sheet, call, answer);
+    }
+    /// The scratch of `solve`.
+    fn scratch(&mut self, sheet: &Sheet, call: Call, answer: &Result<Answer, u32>) {
+        if let Call::Solve { scratch, .. } = call {
+            let kinds = Figure::of(sheet).shown(scratch, answer.as_ref().err().copied().unwrap_or(0));
+            kinds.iter().for_each(|kind| self.meet(&format!("{} {kind}", call.name())));
         }
     }
 
@@ -97,6 +145,7 @@ impl Cover {
         for how in ["converged", "converged by the second run", "not converged", "with drag"] {
             self.add(format!("solve iterated, {how}, 64 bodies and 128 relations"), 0);
         }
+        LARGEST.iter().flat_map(|size| Figure::wanted(size)).for_each(|kind| self.add(format!("solve {kind}"), 0));
     }
     /// A call on a whole header and more, and how many rounds and second runs the Rust took for it.
     pub fn most(&mut self, bytes: &[u8], call: Call, answer: &Result<Answer, u32>, [rounds, again]: [u64; 2]) {
@@ -108,6 +157,9 @@ impl Cover {
             Err(3) if m == MOST_BODIES + 1 && k <= MOST_RELATIONS => self.add(format!("{name} refused 3, 65 bodies"), 1),
             Err(3) if m <= MOST_BODIES && k == MOST_RELATIONS + 1 => self.add(format!("{name} refused 3, 129 relations"), 1),
             _ => {}
+        }
+        if let (Call::Solve { .. }, Ok(sheet)) = (call, read(bytes)) {
+            self.scratch(&sheet, call, answer);
         }
         let Ok(answer) = answer else { return };
         for (met, size) in [(bodies, "64 bodies"), (relations, "128 relations"), (bodies && relations, "64 bodies and 128 relations")] {
@@ -135,15 +187,21 @@ impl Cover {
     pub fn want_report(&mut self) {
         self.add("report accepted".into(), 0);
         (1..=7).chain([9]).for_each(|number| self.add(format!("report refused {number}"), 0));
-        for what in ["64 bodies and 128 relations", "8192 doubles for solve", "8192 doubles for dof"] {
+        for what in [
+            "64 bodies and 128 relations",
+            "64 bodies and 128 relations, over 8192 doubles for two squares",
+            "8192 doubles for solve, more for two squares",
+            "8194 doubles for two squares",
+            "8192 doubles for dof",
+        ] {
             self.add(format!("report accepted, {what}"), 0);
         }
-        for what in ["64 bodies and 128 relations", "8194 doubles for solve", "8194 doubles for dof alone"] {
+        for what in ["64 bodies and 128 relations", "8193 doubles for solve alone", "8194 doubles for dof alone"] {
             self.add(format!("report refused 9, {what}"), 0);
         }
         self.add("report refused 4, input too long".into(), 0);
     }
-    /// An input of `report` and what it is to print. Every scratch that `solve` and `dof` need is even: 8194 is the next after 8192.
+    /// An input of `report` and what it is to print. What `dof` needs is even, and so are two squares: 8194 is the next after 8192.
     pub fn report(&mut self, input: &[u8], text: &str) {
         let said = text.lines().next().unwrap();
         let said = if said.starts_with("refused") { said } else { "accepted" };
@@ -152,12 +210,15 @@ impl Cover {
             self.add(format!("report {said}, input too long"), 1);
         }
         let Ok(sheet) = read(input) else { return };
-        let (solve, dof) = whole::scratch(&sheet);
+        let ((solve, dof), two_squares) = (whole::scratch(&sheet), whole::two_squares(&sheet));
+        let most = sheet.bodies.len() == MOST_BODIES && sheet.relations.len() == MOST_RELATIONS;
         for (met, what) in [
-            (sheet.bodies.len() == MOST_BODIES && sheet.relations.len() == MOST_RELATIONS, "64 bodies and 128 relations"),
-            (solve == 8192, "8192 doubles for solve"),
+            (most, "64 bodies and 128 relations"),
+            (most && two_squares > 8192, "64 bodies and 128 relations, over 8192 doubles for two squares"),
+            (solve == 8192 && two_squares > 8192, "8192 doubles for solve, more for two squares"),
+            (two_squares == 8194, "8194 doubles for two squares"),
             (dof == 8192, "8192 doubles for dof"),
-            (solve == 8194, "8194 doubles for solve"),
+            (solve == 8193 && dof <= 8192, "8193 doubles for solve alone"),
             (solve <= 8192 && dof == 8194, "8194 doubles for dof alone"),
         ] {
             if met {

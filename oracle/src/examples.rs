@@ -1,5 +1,6 @@
 //! Document 01's own examples, asked of the oracle: the table of refusals, report's text, the marked cases; a gear's, by request 1/14; what
-//! request 5/14 says of sets of parameters; and what request 6/14 says of solving by rounds, on sheets that can be worked by hand.
+//! request 5/14 says of sets of parameters; what request 6/14 says of solving by rounds, and request 7/14 of scratch, on sheets that can be worked
+//! by hand.
 
 use crate::answer::{Answer, Call, Set};
 use crate::generate;
@@ -91,7 +92,8 @@ pub fn run() -> bool {
     gears(&example.bodies[0], &mut holds);
     sets(&limits, &mut holds);
     portions(&limits, &mut holds);
-    println!("examples of document 01 and of requests 1/14, 5/14 and 6/14: {count}, {failed} do not hold");
+    scratch(&limits, &mut holds);
+    println!("examples of document 01 and of requests 1/14, 5/14, 6/14 and 7/14: {count}, {failed} do not hold");
     failed == 0
 }
 
@@ -291,4 +293,64 @@ fn portions(limits: &[(&str, Sheet)], holds: &mut impl FnMut(&str, bool)) {
         }
         holds("10 before 9", refused(Portion { state: 15, scratch: 0, ..call(plain, 1, counts) }, 10));
     }
+}
+
+/// Request 7/14: how much scratch each call of `solve` needs. One double less is 9.
+fn scratch(limits: &[(&str, Sheet)], holds: &mut impl FnMut(&str, bool)) {
+    let named = |name: &str| limits.iter().find(|(n, _)| *n == name).unwrap().1.clone();
+    let example = named("the worked example");
+    let of_ends = |a: u8, b: u8| {
+        let mut s = example.clone();
+        for (end, prim) in s.relations[0].ends.iter_mut().zip([a, b]) {
+            (end.prim, end.direction[2]) = (prim, if prim == POINT { 0.0 } else { 1.0 });
+        }
+        s
+    };
+    let twice = Sheet { relations: example.relations.repeat(2), ..example.clone() };
+    // R·n + R² + R(R + 1)/2 + 8R + 8n + 32m, term by term.
+    let worked = [
+        ("nothing", Sheet::default(), 0),
+        ("a body and no rows", named("an unnamed free body"), 32),
+        ("1 row", of_ends(PLANE, POINT), 96),                                      // 6 + 1 + 1 + 8 + 48 + 32
+        ("2 rows", of_ends(PLANE, LINE), 115),                                     // 12 + 4 + 3 + 16 + 48 + 32
+        ("3 rows", example.clone(), 137),                                          // 18 + 9 + 6 + 24 + 48 + 32
+        ("3 rows of a fixed body", off_by(1, 0.25), 71),                           // 0 + 9 + 6 + 24 + 0 + 32
+        ("6 rows", twice, 221),                                                    // 36 + 36 + 21 + 48 + 48 + 32
+        ("384 rows of the ground", named("128 relations of the ground"), 224_480), // 0 + 147456 + 73920 + 3072 + 0 + 32
+        ("800 rows", named("800 rows"), 971_712),                                  // 4800 + 640000 + 320400 + 6400 + 48 + 64
+        ("801 rows", named("801 rows"), 974_128),                                  // 4806 + 641601 + 321201 + 6408 + 48 + 64
+    ];
+    let (set, lots) = (Set { rounds: 1, ..Set::PLAIN }, 3000);
+    for (name, sheet, need) in worked {
+        let bytes = sheet.bytes();
+        let solve = |set: Option<Set>, scratch: usize| {
+            answer(&bytes, Call::Solve { drag: GROUND, set, scratch, poses: lots, frames: lots, errors: lots }).map(|_| ())
+        };
+        let by_portion = |counts: Option<[u32; 2]>, held: &Held, scratch: usize| {
+            let call = Portion { counts, drag: GROUND, set, portion: 1, state: lots, scratch, poses: lots, frames: lots, errors: lots };
+            by_rounds(&bytes, &call, held)
+        };
+        let memory = Held { done: 0, run: 0, state: vec![0.0; lots] };
+        let begun = by_portion(None, &memory, need);
+        holds(&format!("{name}, begun with {need}"), begun.is_ok());
+        let (counts, mut held) = begun.map_or(([0; 2], memory.clone()), |told| (told.counts, told.held()));
+        held.state.resize(lots, 0.0);
+        holds(&format!("{name}, gone on with {need}"), by_portion(Some(counts), &held, need).is_ok());
+        holds(&format!("{name}, {need} with no set"), solve(None, need) == Ok(()));
+        holds(&format!("{name}, {need} with a set"), solve(Some(set), need) == Ok(()));
+        if let Some(short) = need.checked_sub(1) {
+            holds(&format!("{name}, begun with {short}"), by_portion(None, &memory, short).is_err_and(|number| number == 9));
+            holds(&format!("{name}, gone on with {short}"), by_portion(Some(counts), &held, short).is_err_and(|number| number == 9));
+            holds(&format!("{name}, {short} with no set"), solve(None, short) == Err(9));
+            holds(&format!("{name}, {short} with a set"), solve(Some(set), short) == Err(9));
+        }
+    }
+    // `dof` needs R·n + 2n² + 8R + 8n + 32m: 18 + 72 + 24 + 48 + 32.
+    let dof = |scratch: usize| answer(&example.bytes(), Call::Dof { scratch, freedoms: lots }).map(|_| ());
+    holds("194 for dof", dof(194) == Ok(()) && dof(193) == Err(9));
+    // `report` lends 8192. 57 rows of 3 bodies out of 52 need 1026 + 3249 + 1653 + 456 + 144 + 1664, 64 of 2 out of 20 need
+    // 768 + 4096 + 2080 + 512 + 96 + 640; 62 of 3 out of 20 need one more, 1116 + 3844 + 1953 + 496 + 144 + 640.
+    let about = generate::scratch_of_report();
+    let refused = [0, 1, 2].map(|i| report(&about[i].bytes()) == "refused 9\n");
+    holds("8192 and 8193 for report", refused == [false, false, true]);
 }

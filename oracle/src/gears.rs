@@ -4,7 +4,7 @@
 use crate::answer::{Answer, BARE, Call, NAMES, bits, hex, words};
 use crate::compare::{Library, Tally, kept};
 use crate::cover::{Cover, PRIMS};
-use crate::edges::rounds;
+use crate::edges::{ROW_COUNTS, rounds};
 use crate::rng::Rng;
 use crate::sheet::*;
 use crate::trains::{self, ORDER, pose_of, worked};
@@ -97,7 +97,8 @@ impl Cover {
 
     fn want_geared(&mut self) {
         self.want_calls();
-        self.want_lengths();
+        // A gear has a row.
+        self.want_lengths(&ROW_COUNTS[1..]);
         self.want_doubles();
         for how in ["holds at the start", "converged", "converged by the second run", "not converged", "with drag"] {
             self.add(format!("solve with gears, {how}"), 0);
@@ -265,6 +266,11 @@ pub fn run(seed: u64, n: usize, program: Option<&str>) -> bool {
         }
     }
     fields(&mut library, &mut cover);
+    // A gear once, twice and three times.
+    let base = trains::field_bases().remove(0);
+    for sheet in [1, 2, 3].map(|k| Sheet { relations: base.relations.repeat(k), ..base.clone() }) {
+        calls(&sheet, generate::exact_calls(&sheet, &[GROUND, 0]), &mut library, &mut cover);
+    }
     let full = trains::full();
     calls(&full, generate::exact_calls(&full, &[GROUND, 5]), &mut library, &mut cover);
     inputs.push(full.bytes());

@@ -538,8 +538,10 @@ fn most_rows(last: [u8; 2]) -> Sheet {
     })
 }
 
-/// Sheets about the 8192 doubles that `report` lends: 8192 for `solve` and for `dof`, 8194 for `solve`, 8194 for `dof` alone, and
-/// 64 bodies with 128 relations that need less. Each has so many mates of one row on so many bodies, out of so many bodies and relations.
+/// Sheets about the 8192 doubles that `report` lends: 8192 for `solve`, by an odd number of rows and by an even one, where two squares of R by R
+/// would take over 9000; 8193 for `solve` alone; 8192 and 8194 for `dof` alone; less for `solve` where two squares would take 8194; and 64 bodies
+/// with 128 relations that need less, where two squares would too, and where they would not. Each has so many mates of one row on so many bodies,
+/// out of so many bodies and relations.
 pub fn scratch_of_report() -> Vec<Sheet> {
     let mut rng = Rng(6);
     let mut made = |(rows, named, m, k): (usize, usize, usize, usize)| {
@@ -557,7 +559,9 @@ pub fn scratch_of_report() -> Vec<Sheet> {
         limited(&mut sheet);
         sheet
     };
-    [(48, 8, 16, 48), (55, 4, 6, 55), (11, 9, 39, 11), (40, 5, 64, 128)].map(&mut made).into()
+    let of_solve = [(57, 3, 52, 57), (64, 2, 20, 64), (62, 3, 20, 62)];
+    let others = [(48, 8, 16, 48), (11, 9, 39, 11), (55, 4, 6, 55), (40, 5, 64, 128), (48, 5, 64, 128)];
+    of_solve.into_iter().chain(others).map(&mut made).collect()
 }
 
 const ODD_DOUBLES: [u64; 10] = [

@@ -4,7 +4,7 @@
 use crate::answer::{Answer, Call, Set, words};
 use crate::compare::{Library, Tally};
 use crate::cover::{Cover, LAWS};
-use crate::edges::taken;
+use crate::edges::{Figure, LARGEST, ROW_COUNTS, taken};
 use crate::rng::Rng;
 use crate::scenes::said;
 use crate::sets::{self, MOST_ROWS, PARAMETERS};
@@ -70,6 +70,7 @@ fn want(for_a_list: bool) -> Cover {
         all.extend(["exact", "longer"].map(|length| format!("accepted, {slice} {length}")));
     }
     all.push("refused 10, a good set, every slice short".into());
+    all.extend(ROW_COUNTS.iter().chain(&LARGEST).filter(|_| !for_a_list).flat_map(|size| Figure::wanted(size)));
     for (rows, least, most) in ROWS {
         all.extend((least > 1).then(|| format!("{rows} rows, row limit one under, no rounds")));
         all.push(format!("{rows} rows, row limit the same, iterated"));
@@ -209,6 +210,17 @@ impl<'a> Trials<'a> {
         let needs = [whole::scratch(sheet).0, 12 * m, 12 * m, k];
         for ((slice, length), need) in SLICES.iter().zip([scratch, poses, frames, errors]).zip(needs).filter(|(_, need)| *need > 0) {
             self.meet(&format!("accepted, {slice} {}", if length == need { "exact" } else { "longer" }), asked);
+        }
+    }
+
+    /// Just the scratch that the sheet needs, and one double less.
+    pub fn scratch(&mut self, sheet: &Sheet) {
+        let (figure, m, k) = (Figure::of(sheet), sheet.bodies.len(), sheet.relations.len());
+        let set = Some(Set { rounds: 1, ..Set::PLAIN });
+        for scratch in [figure.need, figure.need - 1] {
+            let asked = self.call(&sheet.bytes(), Call::Solve { drag: GROUND, set, scratch, poses: 12 * m, frames: 12 * m, errors: k });
+            let number = asked.answer.as_ref().err().copied().unwrap_or(0);
+            figure.shown(scratch, number).iter().for_each(|kind| self.meet(kind, &asked));
         }
     }
 

@@ -4,6 +4,7 @@
 use crate::answer::{Answer, Call, bits};
 use crate::compare::{Library, Tally, kept};
 use crate::cover::{Cover, LAWS};
+use crate::edges::{Figure, LARGEST, ROW_COUNTS};
 use crate::port::{self, COUNTS_BEFORE};
 use crate::rng::Rng;
 use crate::running::{FIRST, Held, PARTS, Portion, RETRY, Told};
@@ -214,7 +215,9 @@ fn want(for_a_list: bool) -> Cover {
     if !for_a_list {
         all.push("finished after more than 1000 rounds".into());
         for call in CALLS {
-            all.extend(["64 bodies and 128 relations", "800 rows"].map(|size| format!("{call}, {size} iterated")));
+            all.extend(LARGEST.map(|size| format!("{call}, {size} iterated")));
+            let kinds = ROW_COUNTS.iter().chain(&LARGEST).flat_map(|size| Figure::wanted(size));
+            all.extend(kinds.map(|kind| format!("{call}, {kind}")));
         }
         all.push("begin, 801 rows not iterated".into());
     }

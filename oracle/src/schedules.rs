@@ -3,7 +3,7 @@
 
 use crate::answer::{Answer, Call, Set};
 use crate::compare::kept;
-use crate::edges::taken;
+use crate::edges::{Figure, taken};
 use crate::generate;
 use crate::parameters::With;
 use crate::portions::*;
@@ -641,7 +641,23 @@ impl Schedules<'_> {
                 self.meet(&mut caller, &format!("on, {size} iterated"));
             }
             self.over(caller);
+            if iterated {
+                self.scratch(&sheet);
+            }
         }
+    }
+
+    /// One double less than the scratch that the sheet needs, and just that, for a call that begins and for one that goes on.
+    fn scratch(&mut self, sheet: &Sheet) {
+        let (figure, mut caller) = (Figure::of(sheet), Caller::of(sheet));
+        let ([state, poses, frames, errors, _], counts) = (caller.need, caller.counts.map(|count| count as u32));
+        let set = Set { rounds: 2, tolerance: LEAST_TOLERANCE, ..Set::PLAIN };
+        for (counts, scratch) in [None, Some(counts)].into_iter().flat_map(|counts| [figure.need - 1, figure.need].map(|n| (counts, n))) {
+            let call = Portion { counts, drag: GROUND, set, portion: 1, state, scratch, poses, frames, errors };
+            let number = self.call(&mut caller, call).err().unwrap_or(0);
+            figure.shown(scratch, number).iter().for_each(|kind| self.meet(&mut caller, &format!("{}, {kind}", call.name())));
+        }
+        self.over(caller);
     }
 
     /// Every case: N sheets by chance, those at the limits that take little time, and these; for a list only what is small.
@@ -658,6 +674,7 @@ impl Schedules<'_> {
         if !for_a_list {
             self.running_over();
             self.most();
+            [0, 1, 2, 3].map(of_many_rows).iter().for_each(|sheet| self.scratch(sheet));
         }
     }
 }

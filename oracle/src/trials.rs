@@ -1,5 +1,5 @@
 //! What `solve` is asked with a set of parameters (parameters.rs): every value at the edges of a range, the order of the tests, row limits about a
-//! sheet's rows, rounds about those that it takes, tolerances about its errors, drags, and sets by chance.
+//! sheet's rows, rounds about those that it takes, tolerances about its errors, drags, sets by chance, and just the scratch that a sheet needs.
 
 use crate::answer::{Call, Set, words};
 use crate::compare::kept;
@@ -410,6 +410,8 @@ impl Trials<'_> {
         for sheet in [trains::full(), generate::large().remove(0).0] {
             let (drag, set) = self.with(&sheet);
             self.any_set(&sheet, (drag, Set { rounds: 1, row_limit: MOST_ROWS as u32, ..set }));
+            self.scratch(&sheet);
         }
+        [0, 1, 2, 3, 800].map(of_many_rows).iter().for_each(|sheet| self.scratch(sheet));
     }
 }

@@ -40,6 +40,12 @@ pub fn scratch(sheet: &Sheet) -> (usize, usize) {
     (scene.solve_scratch(), scene.dof_scratch())
 }
 
+/// What `solve` would need if it kept two whole squares of R by R.
+pub fn two_squares(sheet: &Sheet) -> usize {
+    let (r, n, m) = (rows(sheet), unknowns(sheet), sheet.bodies.len());
+    r * n + 2 * r * r + 8 * r + 8 * n + 32 * m
+}
+
 /// n, the sheet's unknown count.
 pub fn unknowns(sheet: &Sheet) -> usize {
     with_gears::Scene::of(sheet).unknowns()
