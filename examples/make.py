@@ -1,5 +1,5 @@
 #!/usr/bin/env python3
-"""Writes the example sheets beside this file: python3 examples/make.py. With a folder's name it writes there, and the benchmark's 64-body sheet too.
+"""Writes the example sheets beside this file: python3 examples/make.py. With a folder's name it writes there, and the benchmark's two: 64 bodies, and 800 rows.
 
 The format is document 01's, with gears as request 1 has them: a header of 24 bytes, 136 bytes for a body, 264 for a relation, all little endian. Millimetres and radians.
 """
@@ -171,11 +171,22 @@ def full():
     return sheet(bodies, relations)
 
 
+def rows():
+    """One free body and 800 rows: 114 rigid joints of 7 rows each, at as many places, and a mate of a plane and a line, which has 2. All hold at one place."""
+    off = body((0.2, -0.1, 0.15), turned((1.0, 2.0, -1.0), 0.05), size=20.0)
+    relations = []
+    for i in range(114):
+        p = (9.0 * math.cos(0.3 * i), 9.0 * math.sin(0.3 * i), 0.05 * i)
+        relations.append(relation(JOINT, end(PLANE, GROUND, p, Z), end(PLANE, 0, p, Z), joint=RIGID, flag=1))
+    relations.append(relation(MATE, end(PLANE, GROUND, ZERO, Z), end(LINE, 0, ZERO, X)))
+    return sheet([off], relations)
+
+
 def main():
     folder = Path(sys.argv[1]) if len(sys.argv) > 1 else Path(__file__).resolve().parent
     sheets = {"worked": worked(), "movement": sheet(*movement(0, ZERO, False)), "impossible": impossible(), "train": train()}
     if len(sys.argv) > 1:
-        sheets["full"] = full()
+        sheets.update(full=full(), rows=rows())
     for name, text in sheets.items():
         (folder / f"{name}.sheet").write_bytes(text)
         print(f"{name}.sheet: {len(text)} bytes")
