@@ -15,7 +15,7 @@ pub fn places(rows: usize) -> usize
     rows * (rows + 1) / 2
 }
 
-// Row i of the matrix right of the diagonal, the row beginning at b: column i of the triangle at a, downwards. To row k of the triangle it is k places from the row before.
+// Row i of the matrix right of the diagonal, the row beginning at b: column i of the triangle at a, downwards. From one row of the triangle to the next, row k, it is k places.
 fn across(s: &mut [f64], a: usize, b: usize, i: usize, rows: usize)
     requires { ⌜ (i < rows) × (rows ≤ 800) ⌝ }
     requires { ⌜ a + triangle rows ≤ b ⌝ }
