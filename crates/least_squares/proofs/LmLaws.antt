@@ -2,11 +2,9 @@
 use mathlib.Core.Path.{_≡_, sym, ap, subst, _∙_}
 use mathlib.Core.List.{List, [], _∷_, _++_}
 use Prim.Native.Nat.{ℕ, suc, _+_, _*_, _≤_, _<_, min, max}
-use mathlib.Core.Logic.{inl, inr}
 use native.Mathlib.Omega.{arith}
 use native.Mathlib.Decide.{decLt}
-use native.Mathlib.Nat.{zero-add, mul-le-mul-right, suc-mul, eq-or-lt-of-le, le-of-suc-le-suc}
-use native.Mathlib.Numerals.{add-one}
+use native.Mathlib.Nat.{zero-add, mul-le-mul-right, suc-mul}
 use lib.ListN.{length, getD, set, take, drop, length-drop}
 use lib.Seq.{drop-set-add, take-suc-set, take-suc, getD-drop, getD-set-same, getD-set-other, ext-getD}
 use lib.Ieee.{Float, nan, binary64, sub, mul}
@@ -17,9 +15,9 @@ use Rattle.least_squares.specs.Memory.{part, Kept}
 use Rattle.least_squares.specs.Triangle.{triangle, spread}
 use Rattle.least_squares.specs.Lm.{listOf, gram, gramAt, normal, normalAt, steppedAt, stepped}
 use Rattle.least_squares.specs.LmPosts.{MatrixRow}
-use Rattle.least_squares.proofs.MemoryLaws.{part-at, part-set, part-length, kept-set, kept-trans, kept-wider, kept-at-below, kept-at-above, kept-part-below}
-use Rattle.least_squares.proofs.TableLaws.{in-rows, sum-same, length-listOf, getD-listOf}
-use Rattle.least_squares.proofs.TriangleLaws.{triangle-next, triangle-more, in-triangle, spread-is}
+use Rattle.least_squares.proofs.MemoryLaws.{kept-refl, part-at, part-set, part-length, kept-set, kept-trans, kept-wider, kept-at-below, kept-at-above, kept-part-below}
+use Rattle.least_squares.proofs.TableLaws.{one-more, in-rows, sum-same, length-listOf, getD-listOf}
+use Rattle.least_squares.proofs.TriangleLaws.{row-in-triangle, in-triangle, spread-is}
 
 -- the entry (i, j) of the matrix at a
 pub entry-at : (s : List Float) (a rows i j : ℕ) → i < rows → j < rows → getD (part s a (rows * rows)) (i * rows + j) nan ≡ getD s (a + i * rows + j) nan
@@ -66,13 +64,11 @@ gram-is o s n rows w lo hi i k h l below above r = sum-same zero64 _ _ n same
         ≡ mul binary64 (mul binary64 (getD (part o 0 (rows * n)) (i * n + c) nan) (getD (part o 0 (rows * n)) (k * n + c) nan)) (getD (part o w n) c nan)
     same c m = λ j. mul binary64 (mul binary64 (slope-at i c h m j) (slope-at k c l m j)) (weight-at c m j)
 
-pub gram-kept : (o s : List Float) (n w lo hi i k : ℕ) → i * n + n ≤ lo → k * n + n ≤ lo → hi ≤ w → Kept o s lo hi → gramAt s (i * n) (k * n) w n ≡ gramAt o (i * n) (k * n) w n
-unfolding gramAt
-gram-kept o s n w lo hi i k h l above r =
-    sum-same zero64 _ _ n
-    (λ c m j.
-    mul binary64 (mul binary64 (kept-at-below o s lo hi (i * n + c) nan (omega arith) r j) (kept-at-below o s lo hi (k * n + c) nan (omega arith) r j))
-    (kept-at-above o s lo hi (w + c) nan (omega arith) r j))
+-- so it is as at entry
+pub gram-kept : (o s : List Float) (n rows w lo hi i k : ℕ) → i < rows → k < rows → rows * n ≤ lo → hi ≤ w → Kept o s lo hi
+    → gramAt s (i * n) (k * n) w n ≡ gramAt o (i * n) (k * n) w n
+gram-kept o s n rows w lo hi i k h l below above r =
+    gram-is o s n rows w lo hi i k h l below above r ∙ sym (gram-is o o n rows w lo hi i k h l below above (kept-refl o lo hi))
 
 -- the matrix is the same on both sides of its diagonal
 pub normal-turned : (jac winv : List Float) (n i k : ℕ) → normalAt jac winv n k i ≡ normalAt jac winv n i k
@@ -90,11 +86,10 @@ normal-left jac winv n i k h =
 -- one more entry of a row from `at` on
 pub row-step : (s : List Float) (at k : ℕ) (v : Float) (E : ℕ → Float) → at + k < length s → v ≡ E k → ((j : ℕ) → j < k → getD s (at + j) nan ≡ E j)
     → (j : ℕ) → j < k + 1 → getD (set s (at + k) v) (at + j) nan ≡ E j
-row-step s at k v E h e r j l =
-    elim (eq-or-lt-of-le (le-of-suc-le-suc (rw add-one at l))) [
-      | inl q ↦ ap (λ (x : ℕ). getD (set s (at + k) v) (at + x) nan) q ∙ getD-set-same s (at + k) v nan h ∙ e ∙ ap E (sym q)
-      | inr m ↦ getD-set-other s (at + k) (at + j) v nan (λ (z : at + j ≡ at + k). omega arith) ∙ r j m
-    ]
+row-step s at k v E h e r =
+    one-more (λ j. getD (set s (at + k) v) (at + j) nan ≡ E j) k
+    (λ j m. getD-set-other s (at + k) (at + j) v nan (λ (z : at + j ≡ at + k). omega arith) ∙ r j m)
+    (getD-set-same s (at + k) v nan h ∙ e)
 
 -- one more of the doubles that are written from `at` on
 pub fill-step : (o s t : List Float) (at size k : ℕ) (v : Float) (E : ℕ → Float) → k < size → at + size ≤ length o → Kept o s at (at + size)
@@ -111,16 +106,15 @@ row-fits i n rows h = let m = mul-le-mul-right n h in let e = suc-mul i n in ome
 
 -- the first i rows of the matrix f up to the diagonal, in the triangle at a
 abbrev pub Lower : List Float → ℕ → (ℕ → ℕ → Float) → ℕ → Type 0
-Lower s a f i = (p k : ℕ) → p < i → k < p + 1 → getD s (a + triangle p + k) nan ≡ f p k
+Lower s a f i = (p : ℕ) → p < i → (k : ℕ) → k ≤ p → getD s (a + triangle p + k) nan ≡ f p k
 
 -- one more row: the slopes and the weights are those that o has
 pub lower-step : (o s t : List Float) (i n rows a w : ℕ) → i < rows → rows * n ≤ a → a + triangle rows ≤ w → Kept o s a (a + triangle rows)
     → Lower s a (normalAt (part o 0 (rows * n)) (part o w n) n) i → MatrixRow s t i (a + triangle i) n w
     → Kept o t a (a + triangle rows) × Lower t a (normalAt (part o 0 (rows * n)) (part o w n) n) (i + 1)
 lower-step o s t i n rows a w h below above r e q =
-    let z = triangle-next i in
-    let f : triangle (i + 1) ≤ triangle rows = triangle-more (i + 1) rows (omega arith) in
-    (kept-trans o s t a (a + triangle rows) r (kept-wider s t (a + triangle i) (a + triangle i + (i + 1)) a (a + triangle rows) (omega arith) (omega arith) (q .kept)), more)
+    let f = row-in-triangle i rows h in
+    (kept-trans o s t a (a + triangle rows) r (kept-wider s t (a + triangle i) (a + triangle i + (i + 1)) a (a + triangle rows) (omega arith) (omega arith) (q .kept)), one-more (λ p. (k : ℕ) → k ≤ p → getD t (a + triangle p + k) nan ≡ normalAt jac winv n p k) i before here)
   where
     jac : List Float
     jac = part o 0 (rows * n)
@@ -128,19 +122,13 @@ lower-step o s t i n rows a w h below above r e q =
     winv : List Float
     winv = part o w n
 
-    more : Lower t a (normalAt jac winv n) (i + 1)
-    more p k b d =
-        elim (eq-or-lt-of-le (le-of-suc-le-suc (rw add-one at b))) [
-          | inl z ↦
-              let d' : k < i + 1 = omega arith in
-              ap (λ (x : ℕ). getD t (a + triangle x + k) nan) z ∙ q .entries k d'
-              ∙ gram-is o s n rows w a (a + triangle rows) k i (omega arith) h below above r
-              ∙ normal-left jac winv n i k (omega arith)
-              ∙ ap (λ (x : ℕ). normalAt jac winv n x k) (sym z)
-          | inr z ↦
-              let g = in-triangle p k i (omega arith) z in
-              kept-at-below s t (a + triangle i) (a + triangle i + (i + 1)) (a + triangle p + k) nan (omega arith) (q .kept) ∙ e p k z d
-        ]
+    before : (p : ℕ) → p < i → (k : ℕ) → k ≤ p → getD t (a + triangle p + k) nan ≡ normalAt jac winv n p k
+    before p l k d =
+        let g = in-triangle p k i d l in
+        kept-at-below s t (a + triangle i) (a + triangle i + (i + 1)) (a + triangle p + k) nan (omega arith) (q .kept) ∙ e p l k d
+
+    here : (k : ℕ) → k ≤ i → getD t (a + triangle i + k) nan ≡ normalAt jac winv n i k
+    here k d = q .entries k d ∙ gram-is o s n rows w a (a + triangle rows) k i (omega arith) h below above r ∙ normal-left jac winv n i k d
 
 -- all rows: each entry read is the matrix's
 pub lower-all : (o s : List Float) (n rows a w : ℕ) → Lower s a (normalAt (part o 0 (rows * n)) (part o w n) n) rows

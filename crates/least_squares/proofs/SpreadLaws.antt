@@ -1,12 +1,9 @@
 -- The whole matrix written from its lower triangle, row after row. Assumes nothing.
 use mathlib.Core.Path.{_≡_, sym, ap, subst, _∙_}
-use mathlib.Core.Logic.{inl, inr}
 use mathlib.Core.List.{List}
 use Prim.Native.Nat.{ℕ, _+_, _*_, _≤_, _<_}
 use native.Mathlib.Omega.{arith}
 use native.Mathlib.Decide.{decLt}
-use native.Mathlib.Nat.{eq-or-lt-of-le, le-of-suc-le-suc}
-use native.Mathlib.Numerals.{add-one}
 use lib.ListN.{length, getD, set}
 use lib.Seq.{getD-set-same, getD-set-other}
 use lib.Ieee.{Float, nan}
@@ -14,7 +11,7 @@ use Rattle.least_squares.specs.Memory.{part, Kept}
 use Rattle.least_squares.specs.Triangle.{triangle, entryOf, spread}
 use Rattle.least_squares.specs.LmPosts.{Copied, Across}
 use Rattle.least_squares.proofs.MemoryLaws.{part-at, part-length, kept-set, kept-trans, kept-wider, kept-at-below}
-use Rattle.least_squares.proofs.TableLaws.{table-ext}
+use Rattle.least_squares.proofs.TableLaws.{one-more, table-ext}
 use Rattle.least_squares.proofs.TriangleLaws.{in-triangle, entry-left, entry-turned}
 use Rattle.least_squares.proofs.LmLaws.{entry-at, row-fits}
 
@@ -26,22 +23,17 @@ across-step o s t a b i rows k at h l apart fits r e place p =
     let z = r .size in
     let q = in-triangle k i rows (omega arith) l in
     subst (λ (u : List Float). Kept o u (b + (i + 1)) (b + rows) × ((j : ℕ) → i < j → j < k + 1 → getD u (b + j) nan ≡ getD o (a + triangle j + i) nan)) (sym p)
-    (kept-set o s (b + (i + 1)) (b + rows) (b + k) _ (omega arith) (omega arith) r, more (omega arith) (omega arith))
+    (kept-set o s (b + (i + 1)) (b + rows) (b + k) _ (omega arith) (omega arith) r, λ j m n. more (omega arith) (omega arith) j n m)
   where
-    more : at < b → b + k < length s → (j : ℕ) → i < j → j < k + 1 → getD (set s (b + k) (getD s at nan)) (b + j) nan ≡ getD o (a + triangle j + i) nan
-    more before inside j m n =
-        elim (eq-or-lt-of-le (le-of-suc-le-suc (rw add-one at n))) [
-          | inl q ↦
-              ap (λ (x : ℕ). getD (set s (b + k) (getD s at nan)) (b + x) nan) q ∙ getD-set-same s (b + k) (getD s at nan) nan inside
-              ∙ kept-at-below o s (b + (i + 1)) (b + rows) at nan (omega arith) r
-              ∙ ap (λ (x : ℕ). getD o x nan) place
-              ∙ ap (λ (x : ℕ). getD o (a + triangle x + i) nan) (sym q)
-          | inr q ↦ getD-set-other s (b + k) (b + j) (getD s at nan) nan (λ (z : b + j ≡ b + k). omega arith) ∙ e j m q
-        ]
+    more : at < b → b + k < length s → (j : ℕ) → j < k + 1 → i < j → getD (set s (b + k) (getD s at nan)) (b + j) nan ≡ getD o (a + triangle j + i) nan
+    more before inside =
+        one-more (λ j. i < j → getD (set s (b + k) (getD s at nan)) (b + j) nan ≡ getD o (a + triangle j + i) nan) k
+        (λ j n m. getD-set-other s (b + k) (b + j) (getD s at nan) nan (λ (z : b + j ≡ b + k). omega arith) ∙ e j m n)
+        (λ m. getD-set-same s (b + k) (getD s at nan) nan inside ∙ kept-at-below o s (b + (i + 1)) (b + rows) at nan (omega arith) r ∙ ap (λ (x : ℕ). getD o x nan) place)
 
 -- the first i rows of the square at b are those of the matrix f
 abbrev pub Square : List Float → ℕ → ℕ → (ℕ → ℕ → Float) → ℕ → Type 0
-Square s b rows f i = (p k : ℕ) → p < i → k < rows → getD s (b + p * rows + k) nan ≡ f p k
+Square s b rows f i = (p : ℕ) → p < i → (k : ℕ) → k < rows → getD s (b + p * rows + k) nan ≡ f p k
 
 module _ (o s v t : List Float) (a b i rows : ℕ) (h : i < rows) (apart : a + triangle rows ≤ b) (r : Kept o s b (b + rows * rows))
     (x : Copied s v (a + triangle i) (b + i * rows) (i + 1)) (y : Across v t a (b + i * rows) i rows) where
@@ -71,7 +63,10 @@ module _ (o s v t : List Float) (a b i rows : ℕ) (h : i < rows) (apart : a + t
       ]
 
   pub square-step : Square s b rows (entryOf (part o a (triangle rows))) i → Kept o t b (b + rows * rows) × Square t b rows (entryOf (part o a (triangle rows))) (i + 1)
-  square-step e = (kept-trans o v t b (b + rows * rows) (kept-trans o s v b (b + rows * rows) r copied) crossed, more)
+  square-step e = (
+    kept-trans o v t b (b + rows * rows) (kept-trans o s v b (b + rows * rows) r copied) crossed,
+    one-more (λ p. (k : ℕ) → k < rows → getD t (b + p * rows + k) nan ≡ entryOf (part o a (triangle rows)) p k) i before row,
+  )
     where
       fits : b + i * rows + rows ≤ b + rows * rows
       fits = omega (arith, row-fits i rows rows h)
@@ -82,18 +77,14 @@ module _ (o s v t : List Float) (a b i rows : ℕ) (h : i < rows) (apart : a + t
       crossed : Kept v t b (b + rows * rows)
       crossed = kept-wider v t (b + i * rows + (i + 1)) (b + i * rows + rows) b (b + rows * rows) (omega arith) fits (y .kept)
 
-      more : Square t b rows (entryOf (part o a (triangle rows))) (i + 1)
-      more p k c d =
-          elim (eq-or-lt-of-le (le-of-suc-le-suc (rw add-one at c))) [
-            | inl z ↦ ap (λ (w : ℕ). getD t (b + w * rows + k) nan) z ∙ row k d ∙ ap (λ (w : ℕ). entryOf (part o a (triangle rows)) w k) (sym z)
-            | inr z ↦
-                let g = row-fits p rows i z in
-                kept-at-below v t (b + i * rows + (i + 1)) (b + i * rows + rows) (b + p * rows + k) nan (omega arith) (y .kept)
-                ∙ kept-at-below s v (b + i * rows) (b + i * rows + (i + 1)) (b + p * rows + k) nan (omega arith) (x .kept)
-                ∙ e p k z d
-          ]
+      before : (p : ℕ) → p < i → (k : ℕ) → k < rows → getD t (b + p * rows + k) nan ≡ entryOf (part o a (triangle rows)) p k
+      before p z k d =
+          let g = row-fits p rows i z in
+          kept-at-below v t (b + i * rows + (i + 1)) (b + i * rows + rows) (b + p * rows + k) nan (omega arith) (y .kept)
+          ∙ kept-at-below s v (b + i * rows) (b + i * rows + (i + 1)) (b + p * rows + k) nan (omega arith) (x .kept)
+          ∙ e p z k d
 
 -- all rows are the whole matrix
 pub square-all : (l s : List Float) (b rows : ℕ) → b + rows * rows ≤ length s → Square s b rows (entryOf l) rows → part s b (rows * rows) ≡ spread l rows
 unfolding spread
-square-all l s b rows h e = table-ext (entryOf l) rows rows (part s b (rows * rows)) (part-length s b (rows * rows) h) (λ i k p q. entry-at s b rows i k p q ∙ e i k p q)
+square-all l s b rows h e = table-ext (entryOf l) rows rows (part s b (rows * rows)) (part-length s b (rows * rows) h) (λ i k p q. entry-at s b rows i k p q ∙ e i p k q)

@@ -1,16 +1,25 @@
 -- Lists and matrices given by their entries, and sums of terms that are equal one by one. Assumes nothing.
-use mathlib.Core.Path.{_≡_, refl, sym, ap, _∙_}
+use mathlib.Core.Path.{_≡_, refl, sym, ap, subst, _∙_}
 use mathlib.Core.List.{List, [], _∷_, _++_}
-use Prim.Native.Nat.{ℕ, zero, suc, _+_, _-_, _*_, _/_, _%_, _≤_, _<_}
+use Prim.Native.Nat.{ℕ, zero, suc, _+_, _*_, _/_, _%_, _<_}
 use native.Mathlib.Omega.{arith}
 use mathlib.Core.Logic.{inl, inr}
 use native.Mathlib.Nat.{not-suc-le-zero, le-of-suc-le-suc, eq-or-lt-of-le, zero-mul, mul-zero, suc-mul, mul-le-mul-right, zero-lt-suc, div-add-mod', div-lt-iff-lt-mul, mod-lt}
+use native.Mathlib.Numerals.{add-one}
 use lib.ListN.{length, getD, length-append, List·getD-append}
 use lib.Seq.{getD-append-seam, getD-append-add, ext-getD}
 use lib.Ieee.{Float, nan, binary64, add}
 use Rattle.numbers.specs.Ops.{doubles}
 use Rattle.numbers.specs.Sum.{sumFrom}
 use Rattle.least_squares.specs.Lm.{listOf, tableOf}
+
+-- what holds for all below i and at i holds for all below i + 1
+pub one-more : (P : ℕ → Type 0) (i : ℕ) → ((p : ℕ) → p < i → P p) → P i → (p : ℕ) → p < i + 1 → P p
+one-more P i h e p l =
+    elim (eq-or-lt-of-le (le-of-suc-le-suc (rw add-one at l))) [
+      | inl q ↦ subst P (sym q) e
+      | inr m ↦ h p m
+    ]
 
 pub length-listOf : {A : Type 0} (f : ℕ → A) (n : ℕ) → length (listOf f n) ≡ n
 unfolding listOf

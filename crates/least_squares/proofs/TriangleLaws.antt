@@ -41,15 +41,18 @@ pub triangle-few : (i : ℕ) → i ≤ 896 → triangle i ≤ 401856
 unfolding triangle
 triangle-few i h = triangle-more i 896 h
 
--- an entry up to the diagonal has its place
-pub in-triangle : (i k rows : ℕ) → k ≤ i → i < rows → triangle i + k < triangle rows
-in-triangle i k rows h l =
+-- a row ends where the triangle does, at the latest; so an entry up to the diagonal has its place
+pub row-in-triangle : (i rows : ℕ) → i < rows → triangle i + (i + 1) ≤ triangle rows
+row-in-triangle i rows h =
     let e = triangle-next i in
     let m : triangle (i + 1) ≤ triangle rows = triangle-more (i + 1) rows (omega arith) in
     omega arith
 
+pub in-triangle : (i k rows : ℕ) → k ≤ i → i < rows → triangle i + k < triangle rows
+in-triangle i k rows h l = omega (arith, row-in-triangle i rows l)
+
 -- every place is that of an entry: so it is enough to look at entries
-pub each-place : (P : ℕ → Type 0) (rows : ℕ) → ((i k : ℕ) → i < rows → k < i + 1 → P (triangle i + k)) → (x : ℕ) → x < triangle rows → P x
+pub each-place : (P : ℕ → Type 0) (rows : ℕ) → ((i k : ℕ) → i < rows → k ≤ i → P (triangle i + k)) → (x : ℕ) → x < triangle rows → P x
 each-place P zero h x l = let e = triangle-twice 0 in absurd (omega arith)
 each-place P (suc rows) h x l =
     elim (decLt x (triangle rows)) [
@@ -66,14 +69,17 @@ pub spread-at : (l : List Float) (rows i k : ℕ) → i < rows → k < rows → 
 unfolding spread
 spread-at l rows i k h m = getD-tableOf (entryOf l) rows rows i k nan h m
 
--- an entry up to the diagonal, in memory that has the triangle at a
-pub entry-left : (s : List Float) (a rows i k : ℕ) → k ≤ i → i < rows → entryOf (part s a (triangle rows)) i k ≡ getD s (a + triangle i + k) nan
-entry-left s a rows i k h l =
+-- an entry up to the diagonal, in the triangle and in memory that has the triangle at a
+entry-there : (l : List Float) (i k : ℕ) → k ≤ i → entryOf l i k ≡ getD l (triangle i + k) nan
+entry-there l i k h =
     let up : max i k ≡ i = omega arith in
     let down : min i k ≡ k = omega arith in
+    λ j. getD l (triangle (up j) + down j) nan
+
+pub entry-left : (s : List Float) (a rows i k : ℕ) → k ≤ i → i < rows → entryOf (part s a (triangle rows)) i k ≡ getD s (a + triangle i + k) nan
+entry-left s a rows i k h l =
     let e : a + (triangle i + k) ≡ a + triangle i + k = omega arith in
-    (λ j. getD (part s a (triangle rows)) (triangle (up j) + down j) nan) ∙ part-at s a (triangle rows) (triangle i + k) nan (in-triangle i k rows h l)
-    ∙ ap (λ (w : ℕ). getD s w nan) e
+    entry-there (part s a (triangle rows)) i k h ∙ part-at s a (triangle rows) (triangle i + k) nan (in-triangle i k rows h l) ∙ ap (λ (w : ℕ). getD s w nan) e
 
 -- the diagonal entry of the whole matrix
 pub diagonal-at : (s : List Float) (a rows i : ℕ) → i < rows → getD (spread (part s a (triangle rows)) rows) (i * rows + i) nan ≡ getD s (a + triangle i + i) nan
@@ -88,7 +94,7 @@ entry-turned l i k =
 
 -- Each entry read is the matrix's: where a matrix is the same on both sides of its diagonal, and the triangle has what stands up to it, the whole matrix is read.
 pub spread-is : (f : ℕ → ℕ → Float) (s : List Float) (a rows : ℕ) → ((i k : ℕ) → f i k ≡ f k i)
-    → ((i k : ℕ) → i < rows → k < i + 1 → getD s (a + triangle i + k) nan ≡ f i k) → spread (part s a (triangle rows)) rows ≡ tableOf f rows rows
+    → ((i : ℕ) → i < rows → (k : ℕ) → k ≤ i → getD s (a + triangle i + k) nan ≡ f i k) → spread (part s a (triangle rows)) rows ≡ tableOf f rows rows
 unfolding spread
 spread-is f s a rows same e =
     table-ext f rows rows (spread l rows) (length-tableOf (entryOf l) rows rows) (λ i k h m. spread-at l rows i k h m ∙ read i k h m)
@@ -99,8 +105,8 @@ spread-is f s a rows same e =
     read : (i k : ℕ) → i < rows → k < rows → entryOf l i k ≡ f i k
     read i k h m =
         elim (decLt i k) [
-          | yes q ↦ entry-turned l i k ∙ entry-left s a rows k i (omega arith) m ∙ e k i m (omega arith) ∙ same k i
-          | no q ↦ entry-left s a rows i k (omega arith) h ∙ e i k h (omega arith)
+          | yes q ↦ entry-turned l i k ∙ entry-left s a rows k i (omega arith) m ∙ e k m i (omega arith) ∙ same k i
+          | no q ↦ entry-left s a rows i k (omega arith) h ∙ e i h k (omega arith)
         ]
 
 -- and the whole matrix fixes each double of its triangle
@@ -108,11 +114,8 @@ pub spread-fixes : (l t : List Float) (rows : ℕ) → length l ≡ triangle row
 spread-fixes l t rows a b e =
     ext-getD nan l t (a ∙ sym b) (λ x h. each-place (λ y. getD l y nan ≡ getD t y nan) rows same x (rw (← a) h))
   where
-    at : (u : List Float) (i k : ℕ) → i < rows → k < i + 1 → getD (spread u rows) (i * rows + k) nan ≡ getD u (triangle i + k) nan
-    at u i k h m =
-        let up : max i k ≡ i = omega arith in
-        let down : min i k ≡ k = omega arith in
-        spread-at u rows i k h (omega arith) ∙ (λ j. getD u (triangle (up j) + down j) nan)
+    at : (u : List Float) (i k : ℕ) → i < rows → k ≤ i → getD (spread u rows) (i * rows + k) nan ≡ getD u (triangle i + k) nan
+    at u i k h m = spread-at u rows i k h (omega arith) ∙ entry-there u i k m
 
-    same : (i k : ℕ) → i < rows → k < i + 1 → getD l (triangle i + k) nan ≡ getD t (triangle i + k) nan
+    same : (i k : ℕ) → i < rows → k ≤ i → getD l (triangle i + k) nan ≡ getD t (triangle i + k) nan
     same i k h m = sym (at l i k h m) ∙ ap (λ (w : List Float). getD w (i * rows + k) nan) e ∙ at t i k h m

@@ -1,5 +1,5 @@
 -- What the parts of lm.rs promise of the scratch: which part holds what at exit, s at entry and t at exit. Definitions only.
-use Prim.Native.Nat.{ℕ, _+_, _*_, _<_}
+use Prim.Native.Nat.{ℕ, _+_, _*_, _≤_, _<_}
 use mathlib.Core.Path.{_≡_}
 use mathlib.Core.List.{List}
 use lib.ListN.{getD}
@@ -10,7 +10,7 @@ use Rattle.least_squares.specs.Triangle.{triangle, spread}
 
 -- row i of the matrix up to the diagonal, at `at`; slopes at 0, weights at w
 pub record MatrixRow (s t : List Float) (i at n w : ℕ) : Type 0 where
-  pub entries : (k : ℕ) → k < i + 1 → getD t (at + k) nan ≡ gramAt s (k * n) (i * n) w n
+  pub entries : (k : ℕ) → k ≤ i → getD t (at + k) nan ≡ gramAt s (k * n) (i * n) w n
   pub kept : Kept s t at (at + (i + 1))
 
 -- the matrix, its lower triangle at a

@@ -17,8 +17,10 @@ use Rattle.judging.proofs.CountLaws.{residual-length, row-count-le}
 use Rattle.records.specs.Record.{bodyAt, relAt}
 use Rattle.scene.specs.Scene.{sceneIn}
 use Rattle.least_squares.proofs.TableLaws.{length-listOf}
+use Rattle.least_squares.proofs.TriangleLaws.{triangle-few}
 use Rattle.scene.specs.Scene.{sceneOf, SceneMade}
 use Rattle.least_squares.specs.Lm.{listOf}
+use Rattle.least_squares.specs.Triangle.{triangle}
 use Rattle.scene.specs.Solve.{startAt, Scene, moves, layoutFrom, unknownsIn, unknowns, posesAt, endPose, thirdBody, rowsAt, allRows}
 use Rattle.scene.specs.declared.scene.Scene.{Scene as SceneStruct}
 use Rattle.format.specs.Format.{bodiesOf, relationsOf}
@@ -96,13 +98,14 @@ module _ (s : List ℕ) (c : SceneStruct) (made : SceneMade s 24 (bodiesOf s) (2
 pub product-le : (a b c d : ℕ) → a ≤ c → b ≤ d → a * b ≤ c * d
 product-le a b c d h l = mul-le-mul h l
 
--- the counts and their products are small
+-- the counts, their products and the triangle are small
 pub record Few (c : SceneStruct) : Type 0 where
   pub bodies : c .m ≤ 64
   pub unknowns : c .n ≤ 384
   pub rows : c .rows ≤ 896
   pub slopes : c .rows * c .n ≤ 344064
   pub matrix : c .rows * c .rows ≤ 802816
+  pub half : triangle (c .rows) ≤ 401856
   pub square : c .n * c .n ≤ 147456
 
 pub few : (s : List ℕ) (c : SceneStruct) → SceneMade s 24 (bodiesOf s) (24 + 136 * bodiesOf s) (relationsOf s) c → sheetFault s ≡ 0 → Few c
@@ -117,5 +120,6 @@ few s c made h =
       rows = r;
       slopes = product-le (c .rows) (c .n) 896 384 r n;
       matrix = product-le (c .rows) (c .rows) 896 896 r r;
+      half = triangle-few (c .rows) r;
       square = product-le (c .n) (c .n) 384 384 n n;
     }

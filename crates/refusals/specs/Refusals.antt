@@ -20,7 +20,7 @@ use Rattle.refusals.specs.SceneAt.{sceneAt}
 abbrev pub rowsIn : Scene → ℕ
 rowsIn sc = length (rowsOf sc (listOf startAt (unknowns sc)))
 
--- document 02, 7/14: a whole square and half of one
+-- document 02, 7/14: a whole square, and of another the lower triangle
 abbrev pub solveScratch : List ℕ → ℕ
 solveScratch s =
     let sc = sceneAt s in

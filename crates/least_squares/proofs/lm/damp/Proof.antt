@@ -1,16 +1,14 @@
 -- `least_squares::lm::damp` meets its contract. The invariant: the matrix is the one at entry with the first i entries of its diagonal damped (`dampTo`), and what
 -- stands outside it is kept. A place of the diagonal in the scratch is one of the matrix (`entry-at`, `set-entry`); the measure is the rows to come. Assumes nothing.
-use Rattle.least_squares.proofs.MemoryLaws.{part-set-above, part-set-below, kept-refl, kept-set, part-length, kept-at-below}
+use Rattle.least_squares.proofs.MemoryLaws.{kept-refl, kept-set}
 use Rattle.least_squares.proofs.TableLaws.{in-rows}
 use Rattle.least_squares.proofs.LmLaws.{entry-at, set-entry}
 use Rattle.least_squares.specs.Lm.{dampTo}
 use Rattle.least_squares.specs.Memory.{part, Kept}
-use lib.Ieee.{nan}
-use lib.ListN.{length, getD}
 use native.Mathlib.Omega.{arith}
 use native.Mathlib.Numerals.{add-one}
-use mathlib.Core.Path.{_≡_, refl, sym, ap, _∙_}
-use Prim.Native.Nat.{ℕ, suc, _+_, _*_, _≤_, _<_, _-_}
+use mathlib.Core.Path.{_≡_, refl}
+use Prim.Native.Nat.{_+_, _*_, _≤_, _<_, _-_}
 use Rattle.least_squares.proofs.lm.damp.Statement.{statement}
 use Rattle.least_squares.proofs.lm.damp.Tie as tie
 

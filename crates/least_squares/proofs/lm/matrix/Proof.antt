@@ -9,7 +9,7 @@ use Rattle.least_squares.specs.Lm.{normalAt}
 use Rattle.least_squares.specs.Memory.{part, Kept}
 use Rattle.least_squares.specs.Triangle.{triangle}
 use Rattle.least_squares.proofs.MemoryLaws.{kept-refl}
-use Rattle.least_squares.proofs.TriangleLaws.{triangle-next, triangle-more}
+use Rattle.least_squares.proofs.TriangleLaws.{row-in-triangle}
 use Rattle.least_squares.proofs.LmLaws.{Lower, row-fits, lower-step, lower-all}
 use Rattle.least_squares.proofs.lm.matrix.Statement.{statement}
 use Rattle.least_squares.proofs.lm.matrix.Tie as tie
@@ -31,22 +31,21 @@ add-w : tie.Need-add-w Inv-loop μ-loop
 add-w c = let e = c .places .ensures in omega arith
 
 loop-holds : tie.Need-loop-holds Inv-loop μ-loop
-loop-holds c = let e = c .places .ensures in (omega arith, omega arith, kept-refl _ _ _, λ p k h l. absurd (not-suc-le-zero h))
+loop-holds c = let e = c .places .ensures in (omega arith, omega arith, kept-refl _ _ _, λ p h k l. absurd (not-suc-le-zero h))
 
 places-requires-2 : tie.Need-places-requires-2 Inv-loop μ-loop
 places-requires-2 c κs = omega arith
 
 -- row i of the triangle ends where the triangle does, at the latest, and row i of the slopes where the slopes do
 record Inside (i n rows : ℕ) : Type 0 where
-  pub next : triangle (i + 1) ≡ triangle i + (i + 1)
-  pub last : triangle (i + 1) ≤ triangle rows
+  pub row : triangle i + (i + 1) ≤ triangle rows
   pub slopes : i * n + n ≤ rows * n
 
 inside : (c : tie.In-loop Inv-loop μ-loop) → Inside (c .before .loop .i) (c .before .before .before .before .args .n) (c .before .before .before .before .args .rows)
 inside c =
     let i = c .before .loop .i in
     let g = c .before .before .before .before .args in
-    record { next = triangle-next i; last = triangle-more (i + 1) (g .rows) (omega arith); slopes = row-fits i (g .n) (g .rows) (omega arith) }
+    record { row = row-in-triangle i (g .rows) (omega arith); slopes = row-fits i (g .n) (g .rows) (omega arith) }
 
 add-matrix-row : tie.Need-add-matrix-row Inv-loop μ-loop
 add-matrix-row c = let e = c .places2 .ensures in omega (arith, inside (c .before .before))

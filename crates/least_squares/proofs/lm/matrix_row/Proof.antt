@@ -69,7 +69,7 @@ loop-again c =
     let k = st .loop .k in
     let end = g .at + (g .i + 1) in
     let f = fits (c .before .before) in
-    let sum = gram-kept o s (g .n) (g .w) (g .at) end k (g .i) (omega arith) (omega arith) (omega arith) (st .loop .inv .3) in
+    let sum = gram-kept o s (g .n) (g .i + 1) (g .w) (g .at) end k (g .i) (omega arith) (omega arith) (omega arith) (omega arith) (st .loop .inv .3) in
     let r = fill-step o s _ (g .at) (g .i + 1) k (c .gram .result) (λ (j : ℕ). gramAt o (j * g .n) (g .i * g .n) (g .w) (g .n)) (omega arith) (omega arith) (st .loop .inv .3) (st .loop .inv .4) (c .gram .ensures ∙ sum) refl in
     (omega arith, st .loop .inv .1, st .loop .inv .2, r .0, r .1)
 
@@ -80,7 +80,7 @@ returns : tie.Need-returns Inv-loop μ-loop
 returns c =
     let st = c .before in
     let e : st .loop .k ≡ c .before .before .before .args .i + 1 = omega arith in
-    record { entries = λ k h. st .loop .inv .4 k (rw e h); kept = st .loop .inv .3 }
+    record { entries = λ k h. st .loop .inv .4 k (omega arith); kept = st .loop .inv .3 }
 
 pub matrix-row-spec : {M : Type 1} → statement M
 matrix-row-spec =

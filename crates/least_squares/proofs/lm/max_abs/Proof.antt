@@ -8,8 +8,8 @@ use lib.Ieee.{nan}
 use lib.Seq.{take-length}
 use lib.ListN.{length, take}
 use native.Mathlib.Numerals.{add-one}
-use mathlib.Core.Path.{_≡_, refl, sym, _∙_}
-use Prim.Native.Nat.{suc, _≤_, _-_}
+use mathlib.Core.Path.{_≡_, sym, _∙_}
+use Prim.Native.Nat.{_≤_, _-_}
 use Rattle.least_squares.proofs.lm.max_abs.Statement.{statement}
 use Rattle.least_squares.proofs.lm.max_abs.Tie as tie
 

@@ -2,15 +2,15 @@
 -- is changed. Those parts stand before z, so `stepped_at` reads them as at entry (`step-step`); all n are the step (`step-all`). The measure is the unknowns to come.
 -- Assumes nothing.
 use Rattle.least_squares.proofs.LmLaws.{step-all}
-use Rattle.least_squares.proofs.LmLaws.{step-step, list-ext}
-use Rattle.least_squares.proofs.MemoryLaws.{kept-refl, part-length, part-at}
-use Rattle.least_squares.specs.Lm.{steppedAt, stepped, listOf}
+use Rattle.least_squares.proofs.LmLaws.{step-step}
+use Rattle.least_squares.proofs.MemoryLaws.{kept-refl}
+use Rattle.least_squares.specs.Lm.{steppedAt}
 use Rattle.least_squares.specs.Memory.{part, Kept}
 use lib.Ieee.{nan}
-use lib.ListN.{length, getD}
+use lib.ListN.{getD}
 use native.Mathlib.Nat.{not-suc-le-zero}
 use native.Mathlib.Omega.{arith}
-use mathlib.Core.Path.{_≡_, refl, sym, ap, _∙_}
+use mathlib.Core.Path.{_≡_, refl}
 use Prim.Native.Nat.{ℕ, _+_, _*_, _≤_, _<_, _-_}
 use Rattle.least_squares.proofs.lm.step.Statement.{statement}
 use Rattle.least_squares.proofs.lm.step.Tie as tie

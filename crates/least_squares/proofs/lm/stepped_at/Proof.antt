@@ -7,8 +7,8 @@ use Rattle.numbers.specs.Ops.{doubles}
 use Rattle.numbers.specs.Sum.{sumFrom}
 use native.Mathlib.Numerals.{add-one}
 use native.Mathlib.Omega.{arith}
-use mathlib.Core.Path.{_≡_, refl, sym, _∙_}
-use Prim.Native.Nat.{ℕ, _+_, _*_, _≤_, _<_, _-_}
+use mathlib.Core.Path.{_≡_, refl}
+use Prim.Native.Nat.{_≤_, _-_}
 use Rattle.least_squares.proofs.lm.stepped_at.Statement.{statement}
 use Rattle.least_squares.proofs.lm.stepped_at.Tie as tie
 

@@ -9,7 +9,7 @@ use lib.ListN.{length}
 use Rattle.least_squares.specs.Memory.{part, Kept}
 use Rattle.least_squares.specs.Triangle.{triangle, entryOf}
 use Rattle.least_squares.proofs.MemoryLaws.{kept-refl}
-use Rattle.least_squares.proofs.TriangleLaws.{triangle-next, triangle-more}
+use Rattle.least_squares.proofs.TriangleLaws.{row-in-triangle}
 use Rattle.least_squares.proofs.LmLaws.{row-fits}
 use Rattle.least_squares.proofs.SpreadLaws.{Square, square-step, square-all}
 use Rattle.least_squares.proofs.triangle.spread.Statement.{statement}
@@ -22,12 +22,11 @@ abbrev μ-loop : tie.MeasureT-loop
 μ-loop s₀ a b rows i₀ s i = rows - i
 
 loop-holds : tie.Need-loop-holds Inv-loop μ-loop
-loop-holds c = (omega arith, kept-refl _ _ _, λ p k h l. absurd (not-suc-le-zero h))
+loop-holds c = (omega arith, kept-refl _ _ _, λ p h k l. absurd (not-suc-le-zero h))
 
 -- row i of the triangle ends where the triangle does, at the latest, row i of the square where the square does, and the scratch is as long as at entry
 record Inside (i rows size size' : ℕ) : Type 0 where
-  pub next : triangle (i + 1) ≡ triangle i + (i + 1)
-  pub last : triangle (i + 1) ≤ triangle rows
+  pub row : triangle i + (i + 1) ≤ triangle rows
   pub square : i * rows + rows ≤ rows * rows
   pub same : size' ≡ size
 
@@ -35,7 +34,7 @@ inside : (c : tie.In-loop Inv-loop μ-loop) → Inside (c .before .loop .i) (c .
 inside c =
     let i = c .before .loop .i in
     let rows = c .before .before .before .args .rows in
-    record { next = triangle-next i; last = triangle-more (i + 1) rows (omega arith); square = row-fits i rows rows (omega arith); same = c .before .loop .inv .1 .size }
+    record { row = row-in-triangle i rows (omega arith); square = row-fits i rows rows (omega arith); same = c .before .loop .inv .1 .size }
 
 mul-row : tie.Need-mul-row Inv-loop μ-loop
 mul-row c = omega (arith, inside c)

@@ -1,10 +1,9 @@
--- `refusals::figures::solve_scratch`: the scene's counts are those of the definition (`row-count`, `unknown-count`), and so small that the figure fits (`few`, `triangle-few`). Assumes nothing.
+-- `refusals::figures::solve_scratch`: the scene's counts are those of the definition (`row-count`, `unknown-count`), and so small that the figure fits (`few`). Assumes nothing.
 use mathlib.Core.Path.{_≡_, _∙_}
-use Prim.Native.Nat.{ℕ, _+_, _≤_}
+use Prim.Native.Nat.{ℕ, _+_}
 use native.Mathlib.Omega.{arith}
 use borrow.Author.Needs.{needs}
 use Rattle.least_squares.specs.Triangle.{triangle}
-use Rattle.least_squares.proofs.TriangleLaws.{triangle-few}
 use Rattle.refusals.proofs.FigureLaws.{Few, few, row-count, unknown-count}
 use Rattle.refusals.proofs.figures.solve_scratch.Statement.{statement}
 use Rattle.refusals.proofs.figures.solve_scratch.Tie as tie
@@ -22,17 +21,16 @@ mul-figure c = let z = small c in omega arith
 places-requires : tie.Need-places-requires
 places-requires c κs = small c .rows
 
--- so many places has the triangle
-half : (c : tie.After-places) → let r = c .before .scene-in .result .rows in (c .places .result ≡ triangle r) × (triangle r ≤ 401856)
-half c = (c .places .ensures, triangle-few _ (small (c .before) .rows))
-
 add-figure : tie.Need-add-figure
-add-figure c = let z = small (c .before) in let h = half c in omega arith
+add-figure c =
+    let z = small (c .before) in
+    let e = c .places .ensures in
+    omega arith
 
 figure-requires : tie.Need-figure-requires
 figure-requires c κs =
     let z = small (c .before) in
-    let h = half c in
+    let e = c .places .ensures in
     ((z .rows, z .unknowns), ((z .bodies, omega arith), z .slopes))
 
 -- the squares added as one, or one after the other
