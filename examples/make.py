@@ -1,5 +1,5 @@
 #!/usr/bin/env python3
-"""Writes the example sheets beside this file: python3 examples/make.py. With a folder's name it writes there, and the benchmark's two: 64 bodies, and 800 rows.
+"""Writes the example sheets beside this file: python3 examples/make.py. With a folder's name it writes there, and the benchmark's three: 64 bodies, 32 bodies that jam, and 800 rows.
 
 The format is document 01's, with gears as request 1 has them: a header of 24 bytes, 136 bytes for a body, 264 for a relation, all little endian. Millimetres and radians.
 """
@@ -70,10 +70,14 @@ ARBORS = [
 ]
 
 
-def movement(first, at, more):
+# How far from the middle the bridge's two pins stand, and the plate's holes for them.
+PIN = 9.0
+
+
+def movement(first, at, more, hole=PIN):
     """Plate, bridge and six arbors, numbered from `first` on, the plate at `at`. The plate is fixed; all else stands a little off, as a part does before it is pressed home.
 
-    `more` adds a flush face of the bridge and an angle for each wheel that has none.
+    `more` adds a flush face of the bridge and an angle for each wheel that has none. With another `hole` the pins do not stand in the holes.
     """
     plate, bridge = first, first + 1
     place = lambda p: tuple(a + b for a, b in zip(at, p))
@@ -82,8 +86,8 @@ def movement(first, at, more):
         # The bridge's foot lies on the plate's pillars, 3 mm up: their normals meet.
         relation(MATE, end(PLANE, plate, (0.0, 0.0, 3.0), Z), end(PLANE, bridge, ZERO, (0.0, 0.0, -1.0))),
         # Its two pins stand in the plate's holes.
-        relation(MATE, end(LINE, plate, (9.0, 0.0, 0.0), Z), end(POINT, bridge, (9.0, 0.0, 0.0))),
-        relation(MATE, end(LINE, plate, (-9.0, 0.0, 0.0), Z), end(POINT, bridge, (-9.0, 0.0, 0.0))),
+        relation(MATE, end(LINE, plate, (hole, 0.0, 0.0), Z), end(POINT, bridge, (PIN, 0.0, 0.0))),
+        relation(MATE, end(LINE, plate, (-hole, 0.0, 0.0), Z), end(POINT, bridge, (-PIN, 0.0, 0.0))),
     ]
     for i, (name, p, radius) in enumerate(ARBORS):
         number = first + 2 + i
@@ -161,14 +165,27 @@ def impossible():
     return sheet(bodies, [low, high])
 
 
-def full():
-    """64 bodies and 128 relations: eight movements side by side."""
+def side_by_side(count, hole=PIN):
+    """Movements of 8 bodies and 16 relations."""
     bodies, relations = [], []
-    for i in range(8):
-        b, r = movement(8 * i, (40.0 * (i % 4), 40.0 * (i // 4), 0.0), True)
+    for i in range(count):
+        b, r = movement(8 * i, (40.0 * (i % 4), 40.0 * (i // 4), 0.0), True, hole)
         bodies += b
         relations += r
     return sheet(bodies, relations)
+
+
+def full():
+    """64 bodies and 128 relations: eight movements side by side."""
+    return side_by_side(8)
+
+
+def jammed():
+    """32 bodies and 64 relations: four movements side by side, each with the bridge of a smaller calibre, whose pins stand 9 mm from the middle where the holes stand 12 mm.
+
+    The pins stay 3 mm off. Every round finds a place that is better by next to nothing, so both runs make all their rounds, be they 60 or 200.
+    """
+    return side_by_side(4, 12.0)
 
 
 def rows():
@@ -186,7 +203,7 @@ def main():
     folder = Path(sys.argv[1]) if len(sys.argv) > 1 else Path(__file__).resolve().parent
     sheets = {"worked": worked(), "movement": sheet(*movement(0, ZERO, False)), "impossible": impossible(), "train": train()}
     if len(sys.argv) > 1:
-        sheets.update(full=full(), rows=rows())
+        sheets.update(full=full(), jammed=jammed(), rows=rows())
     for name, text in sheets.items():
         (folder / f"{name}.sheet").write_bytes(text)
         print(f"{name}.sheet: {len(text)} bytes")

@@ -16,7 +16,7 @@ enum { STATE = 1 + 2 * UNKNOWNS + ROWS };
 enum { SCRATCH = ROWS * UNKNOWNS + ROWS * ROWS + ROWS * (ROWS + 1) / 2 + 8 * ROWS + 8 * UNKNOWNS + 32 * BODIES };
 enum { NO_DRAG = 65535, FINISHED = 3 };
 
-/* What sheet_solve takes as given. */
+/* What sheet_solve takes as given, but for the rounds: it takes 60 in each run. */
 static const double tolerance = 1e-9, drag_weight = 10000.0;
 static const uint32_t rounds = 200, row_limit = 800;
 

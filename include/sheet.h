@@ -65,7 +65,7 @@ uint32_t sheet_snap(const uint8_t *sheet, size_t sheet_len, uint16_t relation, d
  *   converged  one byte: 1 if every error is at most 1e-9, else 0
  *
  * Another drag is refused by 8, short poses, frames or errors by 10, and short scratch by 9. What stands in poses, frames and
- * errors past these lengths is kept. The work ends after at most two runs of 200 rounds. */
+ * errors past these lengths is kept. The work ends after at most two runs of 60 rounds; sheet_solve_with takes another number. */
 uint32_t sheet_solve(const uint8_t *sheet, size_t sheet_len, uint16_t drag, double *scratch, size_t scratch_len, double *poses,
                      size_t poses_len, double *frames, size_t frames_len, double *errors, size_t errors_len, uint8_t *converged);
 
@@ -73,7 +73,7 @@ uint32_t sheet_solve(const uint8_t *sheet, size_t sheet_len, uint16_t drag, doub
  *
  *   tolerance    1e-12 to 1e-3: a run ends where every row is at most this, and converged is 1 exactly if every error is.
  *                sheet_solve takes 1e-9.
- *   rounds       1 to 1000: the most rounds of a run; there are at most two runs. sheet_solve takes 200.
+ *   rounds       1 to 1000: the most rounds of a run; there are at most two runs. sheet_solve takes 60.
  *   row_limit    1 to 800: with more rows than this no round is made; the bodies stay where they are, or are turned slightly
  *                if that brings the largest row down. sheet_solve takes 800.
  *   drag_weight  1 to 1e8: how many times as much the dragged body weighs as without a drag. With 1 it gives way as any other;
@@ -85,7 +85,7 @@ uint32_t sheet_solve(const uint8_t *sheet, size_t sheet_len, uint16_t drag, doub
  * give it, and as the errors tell it, whatever the tolerance.
  *
  * A parameter that is a NaN or outside its range is refused by 15, after 8 and before 10 and 9. All else is as for
- * sheet_solve, and with 1e-9, 200, 800 and 10000 so is the answer, bit for bit. */
+ * sheet_solve, and with 1e-9, 60, 800 and 10000 so is the answer, bit for bit. */
 uint32_t sheet_solve_with(const uint8_t *sheet, size_t sheet_len, uint16_t drag, double tolerance, uint32_t rounds,
                           uint32_t row_limit, double drag_weight, double *scratch, size_t scratch_len, double *poses,
                           size_t poses_len, double *frames, size_t frames_len, double *errors, size_t errors_len,

@@ -5,9 +5,10 @@
 OUT/tenon is tenon's solver, OUT/tenon_max the same with `max` as document 01 has it (the larger zero
 is +0), which tells whether that difference ever shows, OUT/tenon_gear the second with law 7, a gear,
 whose row is that of src/gear.rs. In all three the tolerance, the rounds, the row limit and the drag weight
-of `solve` are variables, which are tenon's constants until a caller sets them. Parts of the two functions
-`solve` are functions of their own, which `solve` calls where they stood: so one round can be made from any
-state. Nothing of the copies is kept in the repository.
+of `solve` are variables, which are the copy's constants until a caller sets them. These are tenon's, but for
+the rounds: the copies are built for 60, as document 02, 8/14, has a call that chooses nothing, where tenon has
+200. Parts of the two functions `solve` are functions of their own, which `solve` calls where they stood: so
+one round can be made from any state. Nothing of the copies is kept in the repository.
 
 Every change is a textual substitution with the number of places it must meet. Where a source is not
 as expected, the build stops here and says which substitution failed.
@@ -68,8 +69,8 @@ CHANGES = {
         ("pub struct Solution {\n", "pub struct Solution {\n    pub poses: Vec<Pose>,\n", 1),
         ("Solution { frames, converged: outcome.converged, errors: rel_errors(rels, &poses) }",
          "let errors = rel_errors(rels, &poses);\n    Solution { poses, frames, converged: outcome.converged, errors }", 1),
-        # The constants stay, and a run goes by them until a caller sets others; their uses become those of the run's parameters.
-        ("\nconst MAX_ITER", "\npub const MAX_ITER", 1),
+        # The constants stay but for the rounds, and a run goes by them until a caller sets others; their uses become those of the run's parameters.
+        ("\nconst MAX_ITER: usize = 200;", "\npub const MAX_ITER: usize = 60;", 1),
         ("\nconst DRAG_WEIGHT", "\npub const DRAG_WEIGHT", 1),
         ("drag: Option<usize>) -> Solution {\n", "drag: Option<usize>) -> Solution {\n    let set = crate::begin(0);\n", 1),
         ("{ DRAG_WEIGHT }", "{ set.drag_weight }", 1),
@@ -211,8 +212,8 @@ pub struct Parameters {
     pub drag_weight: f64,
 }
 impl Parameters {
-    /// Tenon's own.
-    pub const TENON: Parameters = Parameters {
+    /// This copy's own: tenon's, but for 60 rounds.
+    pub const OWN: Parameters = Parameters {
         tolerance: tol::ASSEMBLY,
         rounds: solve::MAX_ITER,
         row_limit: lm::MAX_ROWS,
@@ -221,7 +222,7 @@ impl Parameters {
 }
 thread_local! {
     /// Those of the first run and of the second, and which of the two began last.
-    static OF_RUNS: std::cell::Cell<[Parameters; 2]> = const { std::cell::Cell::new([Parameters::TENON; 2]) };
+    static OF_RUNS: std::cell::Cell<[Parameters; 2]> = const { std::cell::Cell::new([Parameters::OWN; 2]) };
     static RUN: std::cell::Cell<usize> = const { std::cell::Cell::new(0) };
 }
 /// Sets what first and second runs go by from here on. The drag weight is the first's.

@@ -2,13 +2,15 @@
 # Compares the port with the Rust: the arcs and the root of target/staticlib/libarcs.a, the eight calls on a sheet of libsheet.a beside it,
 # and the program target/bin/report. Each must be there and built after the last change of the crates' sources. The oracle is built from
 # tenon's unchanged sources (build.sh) and held to document 01's examples and to the frozen lists. The call that solves with a set of
-# parameters is compared with the Rust whose four constants are the set's, the two that solve by rounds with a machine over the Rust's own
-# rounds (src/by_rounds.rs). Sheets with gears, which tenon does not have, are compared with the second program's rows (src/gear.rs), put
-# into a copy of tenon; the call that writes a sheet, which tenon does not have either, with a second writer (src/writing.rs); the number
-# that opening a sheet gives, on sheets with any byte changed, with the oracle's own reader (src/sheet.rs). The example examples/settle.c is
-# run, which solves by rounds and at once. Every comparison prints how much it compared. Ends with 0 if nothing differs and every kind of
-# case that is wanted was met. Where tenon's sources or rustc are missing it says that nothing was compared, and ends with 0, or with 1 if
-# CI is set; where cc is missing it says so of the example, and goes on, or ends with 1 if CI is set.
+# parameters is compared with the Rust whose four constants are the set's, the call without a set with the Rust built for 60 rounds, the
+# two that solve by rounds with a machine over the Rust's own rounds (src/by_rounds.rs). Where a step does not choose sets it names tenon's
+# own constants, 200 rounds among them, and so does report. Sheets with gears, which tenon does not have, are compared with the second
+# program's rows (src/gear.rs), put into a copy of tenon; the call that writes a sheet, which tenon does not have either, with a second
+# writer (src/writing.rs); the number that opening a sheet gives, on sheets with any byte changed, with the oracle's own reader
+# (src/sheet.rs). The example examples/settle.c is run, which solves by rounds and at once. Every comparison prints how much it compared.
+# Ends with 0 if nothing differs and every kind of case that is wanted was met. Where tenon's sources or rustc are missing it says that
+# nothing was compared, and ends with 0, or with 1 if CI is set; where cc is missing it says so of the example, and goes on, or ends with 1
+# if CI is set.
 # Takes 100 to 180 s on two cores, by what else they do.
 set -u
 cd "$(dirname "$0")" || exit 2
@@ -80,11 +82,6 @@ settled() {
     echo "$said"
     grep -qx "round by round and at once agree" <<<"$said"
 }
-# With the example sheets, and the one of 64 bodies and 128 relations that make.py writes beside them.
-limits() {
-    mkdir -p build/examples
-    python3 ../examples/make.py build/examples >/dev/null && build/oracle limits ../examples/*.sheet build/examples/full.sheet
-}
 
 # Starts a step, as many at a time as there are processors. What it says is printed, in the order of starting, once it has ended.
 steps=() shown=0 processors=$(nproc 2>/dev/null || echo 1)
@@ -116,13 +113,16 @@ show() {
 ./build.sh || { fail "FAILED: build.sh"; exit 1; }
 echo "oracle: built ($SECONDS s)"
 rm -rf build/steps
-mkdir -p build/steps
+mkdir -p build/steps build/examples
+# The example sheets and three more, of which the one of 64 bodies and 128 relations and the jammed one of 32 bodies are asked about.
+python3 ../examples/make.py build/examples >/dev/null || fail "FAILED: examples/make.py"
 step build/oracle examples
 step ./measure.sh
 step build/oracle sheet 2 8000
-step limits
+step build/oracle limits ../examples/*.sheet build/examples/full.sheet
 step build/oracle run-report ../tools/report.sh 3 300
 step build/oracle gears 6 600 ../tools/report.sh
+step build/oracle bare 23 400 ../examples/*.sheet build/examples/jammed.sheet
 step build/oracle parameters 7 800 ../examples/*.sheet
 step build/oracle portions 11 800 ../examples/*.sheet
 if command -v cc >/dev/null; then

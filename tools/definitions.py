@@ -5,8 +5,9 @@
 
 The page's own tables are worked: formulas by tools/formulas.py, and relations, bodies and headers by the page's offsets.
 Nothing of the solver's code or of the Rust is used. The frozen answers are those of the Rust, and for gears and for saving, which
-it does not have, those of a second program of ours; for calls that choose parameters, those of the Rust built with what is chosen, and
-for calls that solve by rounds those of a second program of ours over its rounds. The comparisons:
+it does not have, those of a second program of ours; for calls that choose parameters, those of the Rust built with what is chosen, for
+calls that choose nothing those of the Rust built for the page's rounds without a choice, and for calls that solve by rounds those of a
+second program of ours over its rounds. The comparisons:
 
   rows        crates/row_list/data/rows.bin, the Rust's, and gear_rows.bin, our second program's: every row and every error, bit
               for bit; the unit of every row, by doubling all lengths
@@ -14,17 +15,20 @@ for calls that solve by rounds those of a second program of ours over its rounds
   readings    crates/sheet_list/data/relation_calls.bin: `joint_reading`, and whether a relation is judged to have rows
   faults      sheets_fields.bin, sheets_refused.bin, sheets_limits.bin and sheets_geared.bin there: which number every sheet is
               refused with
-  solved      sheets_solved.bin, the Rust's, and sheets_geared.bin, our second program's: where still bodies stand, every error at
-              the poses, what converged says, what is filled in
+  solved      sheets_solved.bin, the Rust's, and sheets_geared.bin, our second program's, both of calls that choose 200 rounds: where
+              still bodies stand, every error at the poses, what converged says, what is filled in
   parameters  sheets_parameters.bin there: which number every call gives that chooses parameters; of every accepted one the same as of
               the solved ones, by its own tolerance; that over the row limit nothing moves but by the slight turn, and that a body
               dragged by the weight 1 is as one that is not dragged
+  unchosen    sheets_bare.bin there: which number every call gives that chooses nothing; of every accepted one the same as of the solved
+              ones, by the tolerance without a choice; of sheets of one straight row, which can be worked by the page's numbers, the
+              error after as many rounds as a call without a choice makes, and whether it converges
   portions    crates/portion_list/data/sheets_portions.bin: which number every call gives that solves by rounds, and that a refused one
               leaves all as it was; of every accepted one the same as of the solved ones, by its own tolerance, that the unknowns of
               the state lead to the poses, and, where the state is the caller's own, that its rows are those at the poses; how many
               rounds are done, which run it is and what of the state is carried over, wherever the page says it without the rounds
-              themselves; that by one set and drag the same rounds in other portions leave the same, and end in one state; of both
-              lists, that calls of 2 rows or more are accepted with just the page's scratch, and refused with one double less
+              themselves; that by one set and drag the same rounds in other portions leave the same, and end in one state; of these
+              three lists, that calls of 2 rows or more are accepted with just the page's scratch, and refused with one double less
   written     crates/write_list/data/scenes_written.bin, our second program's: which number every scene gives that is lent for
               saving, and every byte of the sheet of each that is accepted; reading the sheet as laid out gives the number that the
               tests of its records give
@@ -132,6 +136,10 @@ class Group:
 
 # how the words of a set are read, in their order
 SET = {"tolerance": double, "rounds": int, "rowLimit": int, "dragWeight": double}
+# what calls of `solve` choose in lists that do not spell it out
+NAMED = {"tolerance": 1e-9, "rounds": 200, "rowLimit": 800, "dragWeight": 10000.0}
+# how a list numbers the calls of `solve`: by that set, by one that is spelled out, and by none
+BY_NAMED, BY_SET, BY_NONE = 3, 5, 6
 
 
 class Range:
@@ -874,7 +882,7 @@ def sheets_of(path):
         calls = []
         for _ in range(sheets.word()):
             head = sheets.words(6)
-            head += sheets.words(len(SET)) if head[0] == 5 else []
+            head += sheets.words(len(SET)) if head[0] == BY_SET else []
             n = sheets.word()
             calls.append((head, sheets.bytes(8 * n)))
         yield sheet, calls
@@ -966,7 +974,7 @@ def compare_solved(d):
 
 
 def compare_answers(d, name, laws):
-    """Answers of calls that choose nothing, and freedoms. The list has these laws."""
+    """Answers of calls that choose 200 rounds, and freedoms. The list has these laws."""
     compared, freedoms = Compared(), 0
     for i, (data, calls) in enumerate(sheets_of(SHEETS / name)):
         if sheet_fault(d, data):
@@ -974,10 +982,10 @@ def compare_answers(d, name, laws):
         sheet = Sheet(d, data)
         m = len(sheet.bodies)
         for head, answer in calls:
-            if head[0] not in (3, 4) or struct.unpack_from("<Q", answer)[0]:
+            if head[0] not in (BY_NAMED, 4) or struct.unpack_from("<Q", answer)[0]:
                 continue
-            if head[0] == 3:
-                compare_answer(d, f"{name}, sheet {i}", sheet, answer, d.parameters["tolerance"].plain, compared)
+            if head[0] == BY_NAMED:
+                compare_answer(d, f"{name}, sheet {i}", sheet, answer, NAMED["tolerance"], compared)
                 continue
             doubles = struct.unpack_from(f"<{29 * m}d", answer, 16)
             for j in range(m):
@@ -1069,44 +1077,136 @@ def compare_chosen(d, where, sheet, head, chosen, answer, compared, alike):
     }
 
 
+class Asked:
+    """The calls of a list: their numbers, two tests in a row that a call fails, and their kinds. `given` are the tests of what they take beside the sheet."""
+
+    def __init__(self, d, name, given):
+        self.name, self.laws, self.compared, self.count = name, d.counts, Compared(), 0
+        self.order = [n for n in d.given if n in given]
+        self.numbers, self.both, self.kinds = Counter(), Counter(), Counter()
+
+    def number(self, own, faults):
+        """The page's number for one call more: the sheet's own, or the first that applies."""
+        self.count += 1
+        return own or next((n for n in self.order if n in faults), 0)
+
+    def agreed(self, number, faults):
+        self.numbers[number] += 1
+        self.both.update(pair for pair in zip(self.order, self.order[1:]) if faults >= set(pair))
+
+    def tell(self, what, tests=(), kinds=None, a="answer", more=""):
+        """Whether all was met that the list must have, the sheet's tests among it that are named, and how much it was."""
+        kinds = kinds or list(self.kinds)
+        if not self.compared.all(self.laws) or not all(self.numbers[n] for n in [0, *tests, *self.order]):
+            problem(f"{self.name}: not all was compared")
+        for pair in zip(self.order, self.order[1:]):
+            if not self.both[pair]:
+                problem(f"{self.name}: no call fails by {pair[0]} and by {pair[1]}")
+        for kind in kinds:
+            if not self.kinds[kind]:
+                problem(f"{self.name}: no {a} {kind}")
+        said = ", ".join(f"{n}: {self.numbers[n]}" for n in sorted(self.numbers))
+        print(f"{what}: {sum(self.numbers.values())} of {self.count} calls as in {self.name}, by number {said}; {self.compared}{more}")
+        print(f"  {a}s by kind " + ", ".join(f"{kind}: {self.kinds[kind]}" for kind in kinds))
+        print("  relations by law " + ", ".join(f"{law}: {self.compared.laws[law]}" for law in self.laws))
+
+
 def compare_parameters(d):
     """sheets_parameters.bin: the number that each call gives by the page's order of tests, and what an accepted one answers."""
-    name, compared, numbers, both, kinds, count = "sheets_parameters.bin", Compared(), Counter(), Counter(), Counter(), 0
-    order = [n for n in d.given if n in (8, d.refusal, 10, 9)]
+    asked = Asked(d, "sheets_parameters.bin", (8, d.refusal, 10, 9))
     number_of = lambda answer: struct.unpack_from("<Q", answer)[0]
-    for i, (data, calls) in enumerate(sheets_of(SHEETS / name)):
+    for i, (data, calls) in enumerate(sheets_of(SHEETS / asked.name)):
         own = sheet_fault(d, data)
         sheet, alike = None if own else Sheet(d, data), {}
         for j, (head, answer) in enumerate(calls):
-            where, number, count = f"{name}, sheet {i}, call {j}", number_of(answer), count + 1
+            where, number = f"{asked.name}, sheet {i}, call {j}", number_of(answer)
             chosen = {p: SET[p.name](word) for p, word in zip(d.parameters.values(), head[6:], strict=True)}
             faults = {own} if own else given_faults(d, sheet, head, chosen)
-            mine = own or next((n for n in order if n in faults), 0)
+            mine = asked.number(own, faults)
             if mine != number:
                 problem(f"{where}, {', '.join(f'{p.name} {value!r}' for p, value in chosen.items())}: {mine} by the page and {number} in the list")
                 continue
-            numbers[number] += 1
+            asked.agreed(number, faults)
             d.lent(sheet, head[2], number)
-            both.update(pair for pair in zip(order, order[1:]) if faults >= set(pair))
             bad = {p: value for p, value in chosen.items() if not p.holds(value)}
             if not number:
                 d.met.update((p, bits(float(value))) for p, value in chosen.items())
-                for kind, met in compare_chosen(d, where, sheet, head, chosen, answer, compared, alike).items():
-                    kinds[kind] += bool(met)
+                for kind, met in compare_chosen(d, where, sheet, head, chosen, answer, asked.compared, alike).items():
+                    asked.kinds[kind] += bool(met)
             elif number == d.refusal and len(bad) == 1:
                 d.met.update((p, bits(float(value))) for p, value in bad.items())
-    if not compared.all(d.counts) or not all(numbers[n] for n in [0] + order):
-        problem(f"{name}: not all was compared")
-    for pair in zip(order, order[1:]):
-        if not both[pair]:
-            problem(f"{name}: no call fails by {pair[0]} and by {pair[1]}")
-    for kind in kinds:
-        if not kinds[kind]:
-            problem(f"{name}: no answer {kind}")
-    said = ", ".join(f"{n}: {numbers[n]}" for n in sorted(numbers))
-    print(f"parameters: {sum(numbers.values())} of {count} calls as in {name}, by number {said}; {compared}")
-    print("  answers by kind " + ", ".join(f"{kind}: {kinds[kind]}" for kind in kinds))
-    print("  relations by law " + ", ".join(f"{law}: {compared.laws[law]}" for law in d.counts))
+    asked.tell("parameters")
+
+
+def one_straight_row(d, sheet):
+    """Of a sheet of one relation, a mate of a plane of the ground and a body's centre: the row at the start and the square of its slope, which is the same everywhere. None of any other."""
+    if len(sheet.rels) != 1 or sheet.rows != 1 or not sheet.unknowns:
+        return None
+    rel, (law, kinds, _, _) = sheet.rels[0], d.kinds(sheet.rels[0])
+    plane, point = rel["A"], rel["B"]
+    if law != "mate" or kinds != ("plane", "point") or plane["body"] != 65535 or point["body"] == 65535:
+        return None
+    body = sheet.bodies[point["body"]]
+    if any(point["point"]) or body["origin"] != body["centre"]:
+        return None
+    (row, _), = d.rows(rel, start_of_run(d, sheet, (0.0, 0.0, 0.0)))
+    return row, sum(c * c for c in plane["direction"])
+
+
+def after_rounds(d, row, square, rounds, tolerance):
+    """The row after at most so many rounds, by the page's numbers, and how many were made: a round leaves d / (square + d) of it, where d is the damping times the square, or its least figure."""
+    (damping,), (softer, least), (figure,) = (d.values(name) for name in ("run", "softer", "diagMax"))
+    for made in range(rounds):
+        if abs(row) <= tolerance:
+            return row, made
+        added = damping * max(square, figure)
+        row, damping = row * added / (square + added), max(damping * softer, least)
+    return row, rounds
+
+
+def compare_unchosen(d, where, sheet, answer, compared):
+    """An accepted answer of a call that chooses nothing. Gives, of each kind of answer that the list must have, whether it is one."""
+    tolerance, rounds = d.parameters["tolerance"].plain, d.parameters["rounds"].plain
+    poses, rows = compare_answer(d, where, sheet, answer, tolerance, compared)
+    flag, first = struct.unpack_from("<Q", answer, 8)[0], start_of_run(d, sheet, (0.0, 0.0, 0.0))
+    within, moved, straight = all(d.error(rel, first) <= tolerance for rel in sheet.rels), poses != first, one_straight_row(d, sheet)
+    if within and (moved or not flag) or moved and not sheet.unknowns:
+        problem(f"{where}: the bodies stand elsewhere than at the start")
+    last = False
+    if straight:
+        left, made = after_rounds(d, *straight, rounds, tolerance)
+        last = made == rounds
+        if flag != (abs(left) <= tolerance) or abs(largest(rows[0]) - abs(left)) > abs(left) / 1000:
+            problem(f"{where}: the one row is {largest(rows[0])!r}, and {left!r} after {made} rounds by the page")
+    return {
+        "within the tolerance at the start": within,
+        "where nothing moves": not flag and not sheet.unknowns,
+        "converged elsewhere": flag and moved,
+        "not converged elsewhere": not flag and moved,
+        "of one straight row, converged by the last round": straight and flag and last,
+        "of one straight row, off after the last round": straight and not flag and last,
+    }
+
+
+def compare_bare(d):
+    """sheets_bare.bin: the number that each call gives by the page's order of tests, and what an accepted one answers."""
+    asked, chosen = Asked(d, "sheets_bare.bin", (8, 10, 9)), {p: p.plain for p in d.parameters.values()}
+    for i, (data, calls) in enumerate(sheets_of(SHEETS / asked.name)):
+        own = sheet_fault(d, data)
+        sheet = None if own else Sheet(d, data)
+        for j, (head, answer) in enumerate(calls):
+            where, number = f"{asked.name}, sheet {i}, call {j}", struct.unpack_from("<Q", answer)[0]
+            faults = {own} if own else given_faults(d, sheet, head, chosen)
+            mine = asked.number(own, faults)
+            if head[0] != BY_NONE or mine != number:
+                problem(f"{where}: call {head[0]}, {mine} by the page and {number} in the list")
+                continue
+            asked.agreed(number, faults)
+            d.lent(sheet, head[2], number)
+            if not number:
+                for kind, met in compare_unchosen(d, where, sheet, answer, asked.compared).items():
+                    asked.kinds[kind] += bool(met)
+    asked.tell("unchosen", d.tests)
 
 
 # the kinds of calls that solve by rounds which the list must have
@@ -1257,25 +1357,24 @@ def compare_sums(where, call, ours, left, alike):
 
 def compare_portions(d):
     """sheets_portions.bin: the number that each call gives by the page's order of tests, and what an accepted one leaves."""
-    name, compared, numbers, both, kinds, count = "sheets_portions.bin", Compared(), Counter(), Counter(), Counter(), 0
-    order = [n for n in d.given if n in (8, d.refusal, d.uncounted, 10, 9)]
-    for i, (data, schedules) in enumerate(schedules_of(d, PORTIONS / name)):
+    asked = Asked(d, "sheets_portions.bin", (8, d.refusal, d.uncounted, 10, 9))
+    compared, kinds = asked.compared, asked.kinds
+    for i, (data, schedules) in enumerate(schedules_of(d, PORTIONS / asked.name)):
         own = sheet_fault(d, data)
         sheet, alike = None if own else Sheet(d, data), {}
         for j, calls in enumerate(schedules):
             held = ours = None
             for h, call in enumerate(calls):
-                where, count = f"{name}, sheet {i}, schedule {j}, call {h}", count + 1
+                where = f"{asked.name}, sheet {i}, schedule {j}, call {h}"
                 if call.given:
                     held, ours = call.given, None
                 faults, alone = ({own}, None) if own else portion_faults(d, sheet, call)
-                mine = own or next((n for n in order if n in faults), 0)
+                mine = asked.number(own, faults)
                 if mine != call.number:
                     problem(f"{where}: {mine} by the page and {call.number} in the list")
                     break
-                numbers[mine] += 1
+                asked.agreed(mine, faults)
                 d.lent(sheet, call.lent[0], mine)
-                both.update(pair for pair in zip(order, order[1:]) if faults >= set(pair))
                 if not mine or alone == d.portion.name:
                     d.met[d.portion, bits(float(call.portion))] += 1
                 if mine:
@@ -1293,19 +1392,10 @@ def compare_portions(d):
                 kinds["one's own by another set or drag"] += ours is not None and ours.by is None
                 kinds["another's state"] += ours is None
                 held = Held(call.done, call.run, call.memory + held.memory[call.state:])
-    if not compared.all(d.counts) or not (compared.rows and compared.unknowns) or not all(numbers[n] for n in [0] + order):
-        problem(f"{name}: not all was compared")
-    for pair in zip(order, order[1:]):
-        if not both[pair]:
-            problem(f"{name}: no call fails by {pair[0]} and by {pair[1]}")
-    for kind in KINDS:
-        if not kinds[kind]:
-            problem(f"{name}: no call {kind}")
-    said = ", ".join(f"{n}: {numbers[n]}" for n in sorted(numbers))
-    print(f"portions: {sum(numbers.values())} of {count} calls as in {name}, by number {said}; {compared}; {compared.unknowns} unknowns that lead to the poses, {compared.rows} rows of one's own states")
-    print("  calls by kind " + ", ".join(f"{kind}: {kinds[kind]}" for kind in KINDS))
-    print("  relations by law " + ", ".join(f"{law}: {compared.laws[law]}" for law in d.counts))
-    print(f"  of 2 rows or more, with those of sheets_parameters.bin: accepted with just the page's scratch {d.met[AT_THE_FIGURE]}, refused with one double less {d.met[ONE_SHORT]}")
+    if not (compared.rows and compared.unknowns):
+        problem(f"{asked.name}: not all was compared")
+    asked.tell("portions", kinds=KINDS, a="call", more=f"; {compared.unknowns} unknowns that lead to the poses, {compared.rows} rows of one's own states")
+    print(f"  of 2 rows or more, with those of sheets_parameters.bin and sheets_bare.bin: accepted with just the page's scratch {d.met[AT_THE_FIGURE]}, refused with one double less {d.met[ONE_SHORT]}")
 
 
 def compare_written(d):
@@ -1447,7 +1537,7 @@ def main():
     path = pathlib.Path(sys.argv[1]) if len(sys.argv) == 2 else ROOT / "docs" / "DEFINITIONS.md"
     try:
         d = Definitions(path.read_text(encoding="utf-8"))
-        for compare in (compare_rows, compare_functions, compare_readings, compare_fields, compare_refused, compare_solved, compare_parameters, compare_portions, compare_written, compare_numbers, compare_names, compare_sketches):
+        for compare in (compare_rows, compare_functions, compare_readings, compare_fields, compare_refused, compare_solved, compare_parameters, compare_bare, compare_portions, compare_written, compare_numbers, compare_names, compare_sketches):
             compare(d)
         for what in d.unmet():
             problem(f"met by nothing in the lists: {what}")

@@ -14,8 +14,10 @@ pub struct Set {
 }
 
 impl Set {
-    /// What a call without a set means.
-    pub const PLAIN: Set = Set { tolerance: 1e-9, rounds: 200, row_limit: 800, drag_weight: 10000.0 };
+    /// What a call without a set means, by requests 5/14 and 8/14.
+    pub const PLAIN: Set = Set { tolerance: 1e-9, rounds: 60, row_limit: 800, drag_weight: 10000.0 };
+    /// The same with tenon's own 200 rounds: what `report` names, and every trial and list that is not about the call without a set.
+    pub const TWO_HUNDRED: Set = Set { tolerance: 1e-9, rounds: 200, row_limit: 800, drag_weight: 10000.0 };
 
     /// Whether each parameter is within its range, ends included; a NaN is within none.
     pub fn is_in_range(&self) -> bool {
@@ -36,8 +38,8 @@ pub enum Call {
 
 /// The calls' names, by `Call::number`.
 pub const NAMES: [&str; 6] = ["judge", "joint_reading", "snap", "solve", "dof", "solve_with"];
-/// The numbers of those that take no set.
-pub const BARE: [usize; 5] = [0, 1, 2, 3, 4];
+/// The numbers of the five that a sheet is asked with where nothing else is said; of the two that solve it is the one that names a set.
+pub const FIVE: [usize; 5] = [0, 1, 2, 5, 4];
 
 impl Call {
     pub fn number(self) -> usize {

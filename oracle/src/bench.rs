@@ -32,8 +32,8 @@ pub fn run() -> bool {
     true
 }
 
-/// Opening each sheet, 200 times a run; `solve` and `dof` on it, both sides from its bytes on, `solve` also to 1e-3 and to 1e-12; our `solve` one round a
-/// call beside the same at once; writing its scene, tests included.
+/// Opening each sheet, 200 times a run; `solve` without a set and `dof` on it, both sides from its bytes on, `solve` also with 200 rounds, to 1e-3 and
+/// to 1e-12; our `solve` one round a call beside the same at once; writing its scene, tests included.
 pub fn sheets(files: &[&str]) -> bool {
     let lots = 2_000_000;
     let mut scratch = vec![f64::NAN; lots];
@@ -47,8 +47,13 @@ pub fn sheets(files: &[&str]) -> bool {
         println!("open   {m:2} bodies, {k:3} relations: {ours:9.3} us   Rust {theirs:9.3} us   ratio {:.2}", ours / theirs);
         let solve = |set| Call::Solve { drag: sheet::GROUND, set, scratch: lots, poses: 12 * m, frames: 12 * m, errors: k };
         let within = |tolerance| solve(Some(Set { tolerance, ..Set::PLAIN }));
-        let calls =
-            [("solve", solve(None)), ("coarse", within(1e-3)), ("fine", within(1e-12)), ("dof", Call::Dof { scratch: lots, freedoms: 29 * m })];
+        let calls = [
+            ("solve", solve(None)),
+            ("200", solve(Some(Set::TWO_HUNDRED))),
+            ("coarse", within(1e-3)),
+            ("fine", within(1e-12)),
+            ("dof", Call::Dof { scratch: lots, freedoms: 29 * m }),
+        ];
         for (name, call) in calls {
             let theirs = milliseconds(&mut || {
                 black_box(whole::answer(&bytes, call)).ok();

@@ -8,8 +8,8 @@ mod library;
 library!(now, "sheet");
 library!(other, "other");
 
-/// The calls that are timed: opening is judging the relation after the last.
-const CALLS: [&str; 6] = ["open", "judge", "joint_reading", "snap", "solve", "dof"];
+/// The calls that are timed: opening is judging the relation after the last, `200` is `solve` that names 200 rounds and else what no set means.
+const CALLS: [&str; 7] = ["open", "judge", "joint_reading", "snap", "solve", "200", "dof"];
 const SCRATCH: usize = 2_000_000;
 
 /// What is lent to a call: scratch and three slices of doubles, which are longer than any call needs, and the single numbers.
@@ -53,6 +53,10 @@ macro_rules! calls {
                     2 => $library::joint_reading(s, n, 0, first, second),
                     3 => $library::snap(s, n, 0, first, 12),
                     4 => $library::solve(s, n, u16::MAX, scratch, SCRATCH, first, 12 * m, second, 12 * m, third, k, &mut lent.converged),
+                    5 => {
+                        let flag = &mut lent.converged;
+                        $library::solve_with(s, n, u16::MAX, 1e-9, 200, 800, 1e4, scratch, SCRATCH, first, 12 * m, second, 12 * m, third, k, flag)
+                    }
                     _ => $library::dof(s, n, scratch, SCRATCH, first, 29 * m, &mut lent.free),
                 }
             }

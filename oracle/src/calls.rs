@@ -1,5 +1,5 @@
 // The calls on a sheet, answered by tenon: included over `tenon`, `tenon_max` and `tenon_gear`. Each place gives `gear_of`, the law of a gear.
-// A call's tests 13, 8, 11, 12, 15, 10, 9 and its answer as document 01 and requests 5/14 and 7/14 lay them out.
+// A call's tests 13, 8, 11, 12, 15, 10, 9 and its answer as document 01 and requests 5/14, 7/14 and 8/14 lay them out.
 
 use crate::answer::{Answer, Call, Set};
 use crate::sheet::{self, Sheet};
@@ -140,9 +140,9 @@ fn freedom_list(d: &solve::BodyDof) -> Vec<f64> {
 fn parameters(set: Set) -> Parameters {
     Parameters { tolerance: set.tolerance, rounds: set.rounds as usize, row_limit: set.row_limit as usize, drag_weight: set.drag_weight }
 }
-/// What a call without a set goes by.
+/// What a call without a set goes by: the copy's own constants.
 pub fn own() -> Set {
-    let Parameters { tolerance, rounds, row_limit, drag_weight } = Parameters::TENON;
+    let Parameters { tolerance, rounds, row_limit, drag_weight } = Parameters::OWN;
     Set { tolerance, rounds: rounds as u32, row_limit: row_limit as u32, drag_weight }
 }
 
@@ -177,7 +177,7 @@ pub fn accepted(scene: &Scene, call: Call) -> Answer {
             let motion = solve::snap(&scene.bodies, &scene.rels[relation as usize]);
             Answer::Snap { motion: pose_list(&motion.r, motion.t) }
         }
-        Call::Solve { drag, set, .. } => solved(scene, drag, [set.map_or(Parameters::TENON, parameters); 2]),
+        Call::Solve { drag, set, .. } => solved(scene, drag, [set.map_or(Parameters::OWN, parameters); 2]),
         Call::Dof { .. } => {
             let (bodies, free) = solve::dof(&scene.bodies, &scene.rels);
             Answer::Dof { freedoms: bodies.iter().flat_map(freedom_list).collect(), free: free as u32 }
@@ -203,12 +203,16 @@ pub fn rows(relation: &sheet::Relation, poses: &[[f64; 12]]) -> Vec<f64> {
     out
 }
 
-/// The program `report`: what it prints for what it reads.
+/// The program `report`, which names 200 rounds: what it prints for what it reads.
 pub fn report(input: &[u8]) -> String {
+    report_by(input, Some(Set::TWO_HUNDRED))
+}
+/// What it would print if it solved by this set, or without one.
+pub fn report_by(input: &[u8], set: Option<Set>) -> String {
     let bytes = &input[..input.len().min(42_521)];
     let run = || -> Result<String, u32> {
         let (m, k) = (sheet::MOST_BODIES, sheet::MOST_RELATIONS);
-        let solve = Call::Solve { drag: sheet::GROUND, set: None, scratch: 8192, poses: 12 * m, frames: 12 * m, errors: k };
+        let solve = Call::Solve { drag: sheet::GROUND, set, scratch: 8192, poses: 12 * m, frames: 12 * m, errors: k };
         let solved = answer(bytes, solve)?;
         let dof = answer(bytes, Call::Dof { scratch: 8192, freedoms: 29 * m })?;
         let (Answer::Solve { errors, converged, .. }, Answer::Dof { freedoms, free }) = (solved, dof) else { unreachable!() };

@@ -1,6 +1,6 @@
 //! Comparisons: tenon with document 01's `max`, the linked arcs, the linked sheet library, the program report.
 
-use crate::answer::{Answer, BARE, Call, bits, hex, text, words};
+use crate::answer::{Answer, Call, FIVE, bits, hex, text, words};
 use crate::arguments as args;
 use crate::cover::Cover;
 use crate::edges;
@@ -222,14 +222,14 @@ impl Library {
 
 /// The sheet library against the Rust on the cases of a seed.
 pub fn sheet(seed: u64, n: usize) -> bool {
-    let mut library = Library::new("seed", &BARE);
+    let mut library = Library::new("seed", &FIVE);
     let cover = cases(seed, n, |bytes, call| library.ask(bytes, call));
     library.done() & cover.done()
 }
 
 /// The sheet library against the Rust at the limits of bodies, relations and rows, and on the sheets in these files.
 pub fn limits(files: &[&str]) -> bool {
-    let (mut library, mut cover) = (Library::new("limits", &BARE), Cover::default());
+    let (mut library, mut cover) = (Library::new("limits", &FIVE), Cover::default());
     cover.want_most();
     let mut ask = |bytes: &[u8], call: Call| {
         let before = edges::rounds();

@@ -1,6 +1,6 @@
 //! Counts of what was tried: kinds of relations and bodies, refusals, branches of the Rust.
 
-use crate::answer::{Answer, Call, NAMES};
+use crate::answer::{Answer, Call, FIVE, NAMES};
 use crate::sheet::*;
 use std::collections::BTreeMap;
 use std::sync::atomic::Ordering;
@@ -8,7 +8,7 @@ use std::sync::atomic::Ordering;
 pub const LAWS: [&str; 8] = ["mate", "flush", "angle", "insert", "tangent", "symmetry", "joint", "gear"];
 pub const JOINTS: [&str; 6] = ["rigid", "revolute", "slider", "cylindrical", "planar", "ball"];
 pub const PRIMS: [&str; 4] = ["plane", "line", "point", "circle"];
-/// The refusals that each call without a set can give.
+/// The refusals that each of the five calls can give where its set is in range.
 const REFUSALS: [&[u32]; 5] = [
     &[1, 2, 3, 4, 5, 6, 7, 11, 12, 13, 14],
     &[1, 2, 3, 4, 5, 6, 7, 13, 14],
@@ -54,9 +54,9 @@ impl Cover {
         (0..4).flat_map(|s| (0..4).map(move |t| (s, t))).for_each(|(s, t)| c.add(format!("freedom {s} slides {t} turns"), 0));
         c
     }
-    /// Every call accepted, refused by each number that it can give, and `solve` with each outcome.
+    /// Each of the five calls accepted, refused by each number that it can give, and `solve` with each outcome.
     pub fn want_calls(&mut self) {
-        for (call, refusals) in NAMES.iter().zip(REFUSALS) {
+        for (call, refusals) in FIVE.map(|call| NAMES[call]).iter().zip(REFUSALS) {
             self.add(format!("call {call} accepted"), 0);
             refusals.iter().for_each(|r| self.add(format!("call {call} refused {r:2}"), 0));
         }

@@ -1,7 +1,7 @@
 //! What the comparisons must meet at the edges: lent lengths, drags, doubles at their limits, the most bodies, relations and rows.
 //! Each function that begins with `want` enters its kinds at 0; the one after it counts them.
 
-use crate::answer::{Answer, BARE, Call, NAMES};
+use crate::answer::{Answer, Call, FIVE, NAMES, Set};
 use crate::cover::Cover;
 use crate::sheet::*;
 use crate::whole;
@@ -75,7 +75,7 @@ impl Cover {
     pub fn want_lengths(&mut self, row_counts: &[&str]) {
         let lent = [
             Call::Snap { relation: 0, motion: 0 },
-            Call::Solve { drag: GROUND, set: None, scratch: 0, poses: 0, frames: 0, errors: 0 },
+            Call::Solve { drag: GROUND, set: Some(Set::TWO_HUNDRED), scratch: 0, poses: 0, frames: 0, errors: 0 },
             Call::Dof { scratch: 0, freedoms: 0 },
         ];
         for call in lent {
@@ -84,7 +84,7 @@ impl Cover {
                 how.iter().for_each(|how| self.add(format!("{} {slice} {how}", call.name()), 0));
             }
         }
-        row_counts.iter().flat_map(|rows| Figure::wanted(rows)).for_each(|kind| self.add(format!("solve {kind}"), 0));
+        row_counts.iter().flat_map(|rows| Figure::wanted(rows)).for_each(|kind| self.add(format!("solve_with {kind}"), 0));
         self.add("solve with drag, another answer than without".into(), 0);
     }
     /// A slice one short counts where nothing else is.
@@ -111,7 +111,7 @@ impl Cover {
     }
 
     pub fn want_doubles(&mut self) {
-        for (call, limit) in BARE.iter().flat_map(|call| [SIZE, AXIS].map(|limit| (NAMES[*call], limit))) {
+        for (call, limit) in FIVE.iter().flat_map(|call| [SIZE, AXIS].map(|limit| (NAMES[*call], limit))) {
             self.add(format!("{call} accepted, a double of {limit}"), 0);
             self.add(format!("{call} refused 7, the double after {limit}"), 0);
         }
@@ -131,7 +131,7 @@ impl Cover {
     }
 
     pub fn want_most(&mut self) {
-        for call in BARE.map(|call| NAMES[call]) {
+        for call in FIVE.map(|call| NAMES[call]) {
             for size in ["64 bodies", "128 relations", "64 bodies and 128 relations"] {
                 self.add(format!("{call} accepted, {size}"), 0);
             }
@@ -145,7 +145,7 @@ impl Cover {
         for how in ["converged", "converged by the second run", "not converged", "with drag"] {
             self.add(format!("solve iterated, {how}, 64 bodies and 128 relations"), 0);
         }
-        LARGEST.iter().flat_map(|size| Figure::wanted(size)).for_each(|kind| self.add(format!("solve {kind}"), 0));
+        LARGEST.iter().flat_map(|size| Figure::wanted(size)).for_each(|kind| self.add(format!("solve_with {kind}"), 0));
     }
     /// A call on a whole header and more, and how many rounds and second runs the Rust took for it.
     pub fn most(&mut self, bytes: &[u8], call: Call, answer: &Result<Answer, u32>, [rounds, again]: [u64; 2]) {
@@ -200,6 +200,21 @@ impl Cover {
             self.add(format!("report refused 9, {what}"), 0);
         }
         self.add("report refused 4, input too long".into(), 0);
+        self.want_named();
+    }
+    /// Inputs that tell `report`, which names 200 rounds, from one that names none.
+    pub fn want_named(&mut self) {
+        ["another error", "another flag"].iter().for_each(|what| self.add(format!("report accepted, {what} than without a set"), 0));
+    }
+    /// An input and what `report` is to print, beside what it would print without a set.
+    pub fn named(&mut self, input: &[u8], text: &str) {
+        let of = |text: &str, head: &str| text.lines().filter(|line| line.starts_with(head)).map(String::from).collect::<Vec<_>>();
+        let without = whole::report_without(input);
+        for (head, what) in [("relation", "another error"), ("converged", "another flag")] {
+            if of(text, head) != of(&without, head) {
+                self.add(format!("report accepted, {what} than without a set"), 1);
+            }
+        }
     }
     /// An input of `report` and what it is to print. What `dof` needs is even, and so are two squares: 8194 is the next after 8192.
     pub fn report(&mut self, input: &[u8], text: &str) {
@@ -209,6 +224,7 @@ impl Cover {
         if input.len() > 42_521 {
             self.add(format!("report {said}, input too long"), 1);
         }
+        self.named(input, text);
         let Ok(sheet) = read(input) else { return };
         let ((solve, dof), two_squares) = (whole::scratch(&sheet), whole::two_squares(&sheet));
         let most = sheet.bodies.len() == MOST_BODIES && sheet.relations.len() == MOST_RELATIONS;

@@ -1,15 +1,16 @@
 //! Document 01's own examples, asked of the oracle: the table of refusals, report's text, the marked cases; a gear's, by request 1/14; what
-//! request 5/14 says of sets of parameters; what request 6/14 says of solving by rounds, and request 7/14 of scratch, on sheets that can be worked
-//! by hand.
+//! requests 5/14 and 8/14 say of sets of parameters; what request 6/14 says of solving by rounds, and request 7/14 of scratch, on sheets that can
+//! be worked by hand.
 
-use crate::answer::{Answer, Call, Set};
+use crate::answer::{Answer, Call, Set, words};
+use crate::bare::slow;
 use crate::generate;
 use crate::plain::body_of;
 use crate::running::{FINISHED, FIRST, Held, Portion, RETRY, Told};
 use crate::sheet::*;
 use crate::trains::{pose_of, worked};
 use crate::trials::off_by;
-use crate::whole::{answer, by_rounds, report};
+use crate::whole::{answer, by_rounds, report, report_without};
 use crate::{plain, with_gears, with_max01};
 use tenon::{lm, solve};
 
@@ -91,9 +92,10 @@ pub fn run() -> bool {
     holds("801 rows", !converged(&named("801 rows")));
     gears(&example.bodies[0], &mut holds);
     sets(&limits, &mut holds);
+    sixty(&mut holds);
     portions(&limits, &mut holds);
     scratch(&limits, &mut holds);
-    println!("examples of document 01 and of requests 1/14, 5/14, 6/14 and 7/14: {count}, {failed} do not hold");
+    println!("examples of document 01 and of requests 1/14, 5/14, 6/14, 7/14 and 8/14: {count}, {failed} do not hold");
     failed == 0
 }
 
@@ -145,9 +147,9 @@ fn gears(world: &Body, holds: &mut impl FnMut(&str, bool)) {
     });
 }
 
-/// Request 5/14: what no set means, the ranges, the place of 15 among the tests, the flag and the row limit.
+/// Requests 5/14 and 8/14: what no set means, the ranges, the place of 15 among the tests, the flag and the row limit.
 fn sets(limits: &[(&str, Sheet)], holds: &mut impl FnMut(&str, bool)) {
-    let plain = Set { tolerance: 1e-9, rounds: 200, row_limit: 800, drag_weight: 10000.0 };
+    let plain = Set { tolerance: 1e-9, rounds: 60, row_limit: 800, drag_weight: 10000.0 };
     for own in [plain::own(), with_max01::own(), with_gears::own()] {
         holds("no set", own == plain);
     }
@@ -173,6 +175,45 @@ fn sets(limits: &[(&str, Sheet)], holds: &mut impl FnMut(&str, bool)) {
     holds("off by 1e-9, finer", !converged("a fixed point off by 1e-9", tolerance(1e-9f64.next_down())));
     holds("off by the next double, coarser", converged("a fixed point off by the next double", tolerance(1e-9f64.next_up())));
     holds("800 rows over the limit", !converged("800 rows", row_limit(799)));
+}
+
+/// Request 8/14, on a body that is to stand 1e-8 over a plane with a short normal. The row's slope is the normal's length, so J W⁻¹ Jᵀ is its square,
+/// and the damping is measured by its least figure, 1e-12. It is 1e-10 of that in the first round and a tenth of the last in each round after, but
+/// 1e-15 of it at least; a round leaves the part d/(square + d) of the row.
+fn sixty(holds: &mut impl FnMut(&str, bool)) {
+    let left = |normal: f64, rounds: u32| {
+        let part = |k: u32| {
+            let d = 1e-12 * 10f64.powi(-10 - k as i32).max(1e-15);
+            d / (normal * normal + d)
+        };
+        (0..rounds).fold(1e-8, |row, k| row * part(k))
+    };
+    let ask =
+        |sheet: &Sheet, set: Option<Set>| answer(&sheet.bytes(), Call::Solve { drag: GROUND, set, scratch: 96, poses: 12, frames: 12, errors: 1 });
+    let named = |rounds: u32| Some(Set { rounds, ..Set::PLAIN });
+    let of = |sheet: &Sheet, set: Option<Set>| {
+        let Ok(Answer::Solve { errors, converged, .. }) = ask(sheet, set) else { panic!("a sheet of one row is refused") };
+        (errors[0], converged)
+    };
+    for (normal, rounds) in [(1e-14, 30), (8e-15, 43), (7e-15, 54), (5e-15, 99), (4.5e-15, 120), (3e-15, 262)] {
+        let (sheet, needs) = (slow(normal), (1..1000).find(|n| left(normal, *n) <= 1e-9).unwrap());
+        holds("the rounds that a short normal takes", needs == rounds && of(&sheet, named(rounds)).1);
+        for (set, most) in [(None, 60), (named(59), 59), (named(60), 60), (named(61), 61), (named(200), 200)] {
+            let (error, converged) = of(&sheet, set);
+            let row = left(normal, needs.min(most));
+            holds(&format!("a normal of {normal:e}, {set:?}"), converged == (needs <= most) && (error - row).abs() < row / 500.0);
+        }
+        holds("no set is 60", words(&ask(&sheet, None)) == words(&ask(&sheet, named(60))));
+        for rounds in [59, 61, 200] {
+            let same = words(&ask(&sheet, None)) == words(&ask(&sheet, named(rounds)));
+            holds("other rounds", same == (needs <= rounds.min(60)));
+        }
+    }
+    // The sheet that docs/DIFFERENCES.md names.
+    let sheet = read(include_bytes!("../sheets/sixty_rounds.sheet")).unwrap();
+    holds("the sheet of a normal of 5e-15", sheet == slow(5e-15));
+    holds("converges with 99 rounds, not with 98", of(&sheet, named(99)).1 && !of(&sheet, named(98)).1);
+    holds("report names 200", report(&sheet.bytes()).starts_with("converged 1\n") && report_without(&sheet.bytes()).starts_with("converged 0\n"));
 }
 
 /// Request 6/14: when a run ends and when it begins, what is carried over, the flag, and the place of 16 among the tests.

@@ -1,7 +1,8 @@
 //! The sheet library and `report` on sheets with gears, beside the second program's rows (gear.rs) and tenon with these rows put in.
 //! What the cases must meet is entered at 0 by the functions that begin with `want`, and counted.
 
-use crate::answer::{Answer, BARE, Call, NAMES, bits, hex, words};
+use crate::answer::{Answer, Call, FIVE, NAMES, Set, bits, hex, words};
+use crate::bare::slow_with_gear;
 use crate::compare::{Library, Tally, kept};
 use crate::cover::{Cover, PRIMS};
 use crate::edges::{ROW_COUNTS, rounds};
@@ -175,7 +176,8 @@ fn rows(rng: &mut Rng, n: usize, library: &mut Library, cover: &mut Cover) -> bo
         put_in.case(put.len() == 1 && bits(put[0]) == bits(row), || format!("{} for {}", hex(put[0]), hex(row)));
         let sheet = Sheet { bodies: bodies.to_vec(), relations: vec![r] };
         let (scratch, _) = whole::scratch(&sheet);
-        let answer = library.ask(&sheet.bytes(), Call::Solve { drag: GROUND, set: None, scratch, poses: 36, frames: 36, errors: 1 });
+        let set = Some(Set::TWO_HUNDRED);
+        let answer = library.ask(&sheet.bytes(), Call::Solve { drag: GROUND, set, scratch, poses: 36, frames: 36, errors: 1 });
         let Ok(Answer::Solve { errors, .. }) = answer else { panic!("a gear is refused") };
         reported.case(bits(errors[0]) == bits(row.abs()), || format!("{} for {}", hex(errors[0]), hex(row.abs())));
     }
@@ -242,10 +244,10 @@ fn fields(library: &mut Library, cover: &mut Cover) {
 /// The library on gears alone and on N valid and N damaged sheets with gears; with a program, that one as `report` on some of them.
 pub fn run(seed: u64, n: usize, program: Option<&str>) -> bool {
     let (mut rng, mut cover) = (Rng(seed), Cover::default());
-    let mut library = Library::new("gears", &BARE);
+    let mut library = Library::new("gears", &FIVE);
     cover.want_gears();
     cover.want_geared();
-    cover.want_refused(&BARE.map(|call| NAMES[call]));
+    cover.want_refused(&FIVE.map(|call| NAMES[call]));
     let mut good = rows(&mut rng, 8 * n, &mut library, &mut cover);
     let mut inputs = Vec::new();
     for i in 0..n {
@@ -275,6 +277,7 @@ pub fn run(seed: u64, n: usize, program: Option<&str>) -> bool {
     calls(&full, generate::exact_calls(&full, &[GROUND, 5]), &mut library, &mut cover);
     inputs.push(full.bytes());
     inputs.extend(trains::orders().into_iter().map(|(_, sheet)| sheet.bytes()));
+    inputs.push(slow_with_gear().bytes());
     if let Some(program) = program {
         good &= report(program, &inputs);
     }
@@ -285,8 +288,10 @@ pub fn run(seed: u64, n: usize, program: Option<&str>) -> bool {
 fn report(program: &str, inputs: &[Vec<u8>]) -> bool {
     let (mut tally, mut cover) = (Tally::new("report with gears"), Cover::default());
     ["accepted", "refused 5", "refused 6", "refused 7", "refused 9", "refused 14"].iter().for_each(|said| cover.add(format!("report {said}"), 0));
+    cover.want_named();
     for input in inputs {
         let want = whole::report(input);
+        cover.named(input, &want);
         let (given, status) = crate::compare::run_report(program, input);
         let name = format!("report-gears-{}", tally.differ);
         tally.case(status.success() && given == want.as_bytes(), || {

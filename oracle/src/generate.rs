@@ -2,7 +2,7 @@
 //! tests 1 to 7. Its first relation goes through every law, joint kind, flag and pair of primitives as the index grows; the rest is by chance.
 //! `damaged` and `calls` put faults into sheets and into what is lent with them.
 
-use crate::answer::Call;
+use crate::answer::{Call, Set};
 use crate::plain::{body_of, frame_of, list, rel_of};
 use crate::rng::Rng;
 use crate::sheet::*;
@@ -691,6 +691,9 @@ pub fn damaged(rng: &mut Rng, sheet: &Sheet) -> Vec<u8> {
     bytes
 }
 
+/// What the calls of `solve` below name.
+const NAMED: Option<Set> = Some(Set::TWO_HUNDRED);
+
 /// Calls on a sheet with lengths and numbers at, just under and over what they must be.
 /// `sheet` is what the bytes hold where they hold one.
 pub fn calls(rng: &mut Rng, sheet: Option<&Sheet>) -> Vec<Call> {
@@ -714,7 +717,7 @@ pub fn calls(rng: &mut Rng, sheet: Option<&Sheet>) -> Vec<Call> {
         Call::Judge { relation },
         Call::Reading { relation },
         Call::Snap { relation, motion: near(rng, 12) },
-        Call::Solve { drag, set: None, scratch: near(rng, solve), poses: near(rng, 12 * m), frames: near(rng, 12 * m), errors: near(rng, k) },
+        Call::Solve { drag, set: NAMED, scratch: near(rng, solve), poses: near(rng, 12 * m), frames: near(rng, 12 * m), errors: near(rng, k) },
         Call::Dof { scratch: near(rng, dof), freedoms: near(rng, 29 * m) },
     ]
 }
@@ -730,7 +733,7 @@ pub fn good_calls(rng: &mut Rng, sheet: &Sheet) -> Vec<Call> {
     }
     let drag = if m == 0 { GROUND } else { drag };
     let mut more = |n: usize| n + rng.pick(&[0, 0, 1, 17]);
-    out.push(Call::Solve { drag, set: None, scratch: more(solve), poses: more(12 * m), frames: more(12 * m), errors: more(k) });
+    out.push(Call::Solve { drag, set: NAMED, scratch: more(solve), poses: more(12 * m), frames: more(12 * m), errors: more(k) });
     out.push(Call::Dof { scratch: more(dof), freedoms: more(29 * m) });
     out
 }
@@ -741,7 +744,7 @@ pub fn calls_on_one() -> [Call; 5] {
         Call::Judge { relation: 0 },
         Call::Reading { relation: 0 },
         Call::Snap { relation: 0, motion: 12 },
-        Call::Solve { drag: GROUND, set: None, scratch: 300, poses: 12, frames: 12, errors: 1 },
+        Call::Solve { drag: GROUND, set: NAMED, scratch: 300, poses: 12, frames: 12, errors: 1 },
         Call::Dof { scratch: 300, freedoms: 29 },
     ]
 }
@@ -756,7 +759,7 @@ pub fn exact_calls(sheet: &Sheet, drags: &[u16]) -> Vec<Call> {
         out.extend([Call::Judge { relation }, Call::Reading { relation }, Call::Snap { relation, motion: 12 }]);
     }
     let need = [for_solve, 12 * m, 12 * m, k];
-    let solve = |drag: u16, [scratch, poses, frames, errors]: [usize; 4]| Call::Solve { drag, set: None, scratch, poses, frames, errors };
+    let solve = |drag: u16, [scratch, poses, frames, errors]: [usize; 4]| Call::Solve { drag, set: NAMED, scratch, poses, frames, errors };
     out.extend(drags.iter().map(|drag| solve(*drag, need)));
     for i in 0..4 {
         let mut short = need;

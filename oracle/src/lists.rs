@@ -1,7 +1,8 @@
 //! The frozen lists: answers of the Rust and of the second program as data, for programs that run without it. FORMATS.md describes them.
 
-use crate::answer::{Call, bits, words};
+use crate::answer::{Call, Set, bits, words};
 use crate::arguments as args;
+use crate::bare;
 use crate::cover::Cover;
 use crate::gears;
 use crate::generate;
@@ -365,9 +366,17 @@ fn pose(rng: &mut Rng, b: &Body) -> [f64; 12] {
     [row(0), row(1), row(2), o.map(|v| v * far)].concat().try_into().unwrap()
 }
 
+/// What calls of `solve` choose in a list: one set, which the list does not spell out, sets that it spells out, or nothing.
+#[derive(Clone, Copy, PartialEq)]
+enum Choice {
+    TwoHundred,
+    Spelled,
+    Nothing,
+}
+
 /// One sheet with calls: its length in bytes, its bytes as words, the number of calls, then each call:
-/// its number, relation or drag, four lengths, the four parameters where it has a set, the count of answer words, the answer words.
-fn sheet_words(bytes: &[u8], calls: &[Call]) -> Vec<u64> {
+/// its number, relation or drag, four lengths, the four parameters where they are spelled out, the count of answer words, the answer words.
+fn sheet_words(bytes: &[u8], calls: &[Call], choice: Choice) -> Vec<u64> {
     let mut out = vec![bytes.len() as u64];
     out.extend(record_words(bytes));
     out.push(calls.len() as u64);
@@ -376,12 +385,22 @@ fn sheet_words(bytes: &[u8], calls: &[Call]) -> Vec<u64> {
             Call::Judge { relation } => [0, relation as usize, 0, 0, 0, 0],
             Call::Reading { relation } => [1, relation as usize, 0, 0, 0, 0],
             Call::Snap { relation, motion } => [2, relation as usize, 0, motion, 0, 0],
-            Call::Solve { drag, scratch, poses, frames, errors, .. } => [call.number(), drag as usize, scratch, poses, frames, errors],
+            Call::Solve { drag, set, scratch, poses, frames, errors } => {
+                let (number, chosen) = match choice {
+                    Choice::TwoHundred => (3, set == Some(Set::TWO_HUNDRED)),
+                    Choice::Spelled => (5, set.is_some()),
+                    Choice::Nothing => (6, set.is_none()),
+                };
+                assert!(chosen, "a call of solve that the list has no number for");
+                [number, drag as usize, scratch, poses, frames, errors]
+            }
             Call::Dof { scratch, freedoms } => [4, 0, scratch, freedoms, 0, 0],
         };
         let answer = words(&whole::answer(bytes, *call));
         out.extend(head.map(|n| n as u64));
-        if let Call::Solve { set: Some(set), .. } = call {
+        if let Call::Solve { set: Some(set), .. } = call
+            && choice == Choice::Spelled
+        {
             out.extend([bits(set.tolerance), set.rounds as u64, set.row_limit as u64, bits(set.drag_weight)]);
         }
         out.push(answer.len() as u64);
@@ -410,7 +429,7 @@ fn sheet_lists(dir: &str, rng: &mut Rng, scale: usize) {
         solved.iter().for_each(|c| cover.call(*c, &whole::answer(&bytes, *c)));
         let fresh = (cover.reached(), taken()) != before;
         if (fresh || i % 100 == 99 || scale > 1) && valid.words.len() < 36_000 * scale {
-            valid.put_words(&sheet_words(&bytes, &solved));
+            valid.put_words(&sheet_words(&bytes, &solved, Choice::TwoHundred));
         }
     }
     valid.write(dir, "sheets_solved");
@@ -428,7 +447,7 @@ fn sheet_lists(dir: &str, rng: &mut Rng, scale: usize) {
         let times = seen.entry(answers).or_insert(0);
         *times += 1;
         if *times <= 8 {
-            refused.put_words(&sheet_words(&bytes, &calls));
+            refused.put_words(&sheet_words(&bytes, &calls, Choice::TwoHundred));
         }
     }
     refused.write(dir, "sheets_refused");
@@ -450,7 +469,7 @@ fn sheet_lists(dir: &str, rng: &mut Rng, scale: usize) {
     let mut limits = List::new();
     for (_, sheet) in generate::limits(false) {
         let calls: Vec<Call> = generate::good_calls(rng, &sheet).into_iter().filter(replayed).collect();
-        limits.put_words(&sheet_words(&sheet.bytes(), &calls));
+        limits.put_words(&sheet_words(&sheet.bytes(), &calls, Choice::TwoHundred));
     }
     limits.write(dir, "sheets_limits");
 }
@@ -471,11 +490,11 @@ fn geared_sheets(dir: &str, rng: &mut Rng, scale: usize) {
         }
         let fresh = (cover.reached(), branches()) != before;
         if fresh || i % 11 == 10 || scale > 1 {
-            geared.put_words(&sheet_words(&bytes, &solved));
+            geared.put_words(&sheet_words(&bytes, &solved, Choice::TwoHundred));
         }
     }
     for (_, sheet) in trains::orders() {
-        geared.put_words(&sheet_words(&sheet.bytes(), &generate::calls_on_one()));
+        geared.put_words(&sheet_words(&sheet.bytes(), &generate::calls_on_one(), Choice::TwoHundred));
     }
     for i in 0..24 {
         let sheet = trains::sheet(rng, i);
@@ -483,7 +502,7 @@ fn geared_sheets(dir: &str, rng: &mut Rng, scale: usize) {
         let read = crate::sheet::read(&bytes);
         if bytes.len() <= 2000 {
             let calls = generate::calls(rng, read.as_ref().ok());
-            geared.put_words(&sheet_words(&bytes, &calls));
+            geared.put_words(&sheet_words(&bytes, &calls, Choice::TwoHundred));
         }
     }
     geared.write(dir, "sheets_geared");
@@ -493,9 +512,18 @@ fn geared_sheets(dir: &str, rng: &mut Rng, scale: usize) {
 fn sheets_with_sets(dir: &str) {
     let mut list = List::new();
     for (bytes, calls) in parameters::listed(15, 60) {
-        list.put_words(&sheet_words(&bytes, &calls));
+        list.put_words(&sheet_words(&bytes, &calls, Choice::Spelled));
     }
     list.write(dir, "sheets_parameters");
+}
+
+/// Sheets solved without a set, each call kept for a kind of case that none before it is.
+fn bare_sheets(dir: &str) {
+    let mut list = List::new();
+    for (bytes, calls) in bare::listed(19, 400) {
+        list.put_words(&sheet_words(&bytes, &calls, Choice::Nothing));
+    }
+    list.write(dir, "sheets_bare");
 }
 
 /// Sheets solved by rounds, each schedule of calls kept for a kind of case that none before it is.
@@ -583,6 +611,7 @@ pub fn write(dir: &str, scale: usize) -> bool {
     written_scenes(dir);
     sheets_with_sets(dir);
     sheets_by_rounds(dir);
+    bare_sheets(dir);
     let count = |taken: &[bool]| taken.iter().filter(|t| **t).count();
     println!("branches of the Rust: {}, taken for single functions {}, for sheets {}", tenon::NAMES.len(), count(&by_functions), count(&taken()));
     for ((name, function), sheet) in tenon::NAMES.iter().zip(by_functions).zip(taken()) {

@@ -6,6 +6,7 @@ mod library;
 
 mod answer;
 mod arguments;
+mod bare;
 mod bench;
 mod compare;
 mod cover;
@@ -62,7 +63,7 @@ mod with_gears {
 
 use std::io::Read;
 
-const USAGE: &str = "oracle answer FILE [DRAG]     all answers about a sheet, with all bits
+const USAGE: &str = "oracle answer FILE [DRAG]     all answers about a sheet, with all bits; `solve` names 200 rounds
 oracle report < FILE          what the program report prints
 oracle gen SEED N DIR         N valid sheets, written as DIR/NNNN.sheet, and what they cover
 oracle cover SEED N           all calls on N valid and N damaged sheets, the limits, joints of many turns: counts, branches, max
@@ -75,6 +76,8 @@ oracle limits FILE..          the same at the limits of bodies, relations and ro
 oracle run-report PROGRAM SEED N    the program report against the Rust
 oracle gears SEED N [PROGRAM] the sheet library, and the program report, on gears: 8N rows, N valid and N damaged sheets
 oracle opening                the number that the sheet library's opening gives against the oracle's own reader's, on sheets changed in any byte
+oracle bare SEED N FILE..     `solve` of the sheet library without a set against the Rust built for 60 rounds, on N sheets and on those in these files
+oracle rounds FILE..          how many rounds the Rust makes on the sheets in these files, without a set and with 200 rounds
 oracle parameters SEED N FILE..    `solve` of the sheet library with sets of parameters against the Rust, on N sheets and on those in these files
 oracle portions SEED N FILE..    the sheet library's solving by rounds against the Rust's rounds, on N sheets and on those in these files
 oracle write SEED N FILE..    the sheet library's writing against the second writer: N scenes, fields changed, limits, the sheets in these files
@@ -102,6 +105,8 @@ fn main() {
         ["gears", seed, n] => gears::run(number(seed) as u64, number(n), None),
         ["gears", seed, n, program] => gears::run(number(seed) as u64, number(n), Some(program)),
         ["opening"] => opening::run(),
+        ["bare", seed, n, ref files @ ..] => bare::run(number(seed) as u64, number(n), files),
+        ["rounds", ref files @ ..] => bare::rounds(files),
         ["parameters", seed, n, ref files @ ..] => parameters::run(number(seed) as u64, number(n), files),
         ["portions", seed, n, ref files @ ..] => portions::run(number(seed) as u64, number(n), files),
         ["write", seed, n, ref files @ ..] => scenes::run(number(seed) as u64, number(n), files),
@@ -126,7 +131,7 @@ fn print_answers(file: &str, drag: u16) -> bool {
     for relation in 0..k {
         calls.extend([answer::Call::Judge { relation }, answer::Call::Reading { relation }, answer::Call::Snap { relation, motion: 12 }]);
     }
-    calls.push(answer::Call::Solve { drag, set: None, scratch: lots, poses: lots, frames: lots, errors: lots });
+    calls.push(answer::Call::Solve { drag, set: Some(answer::Set::TWO_HUNDRED), scratch: lots, poses: lots, frames: lots, errors: lots });
     calls.push(answer::Call::Dof { scratch: lots, freedoms: lots });
     for call in calls {
         print!("{}", answer::text(call, &whole::answer(&bytes, call)));

@@ -13,6 +13,9 @@ use crate::whole;
 
 pub const SLICES: [&str; 4] = ["scratch", "poses", "frames", "errors"];
 
+/// What answers a call.
+pub type Ask<'a> = &'a mut dyn FnMut(&[u8], Call) -> Result<Answer, u32>;
+
 /// A call, its answer, and what the Rust did for it.
 pub struct Asked {
     pub bytes: Vec<u8>,
@@ -26,6 +29,14 @@ pub struct Asked {
 }
 
 impl Asked {
+    /// Makes a call, and counts what the Rust does meanwhile.
+    pub fn of(ask: Ask, bytes: &[u8], call: Call) -> Asked {
+        let counters = || taken(["lm::solve: round", "solve: tried again", "solve: retry kept, converged or smaller"]);
+        let before = counters();
+        let answer = ask(bytes, call);
+        let [rounds, again, kept] = [0, 1, 2].map(|i| counters()[i] - before[i]);
+        Asked { bytes: bytes.to_vec(), call, answer, rounds, again: again > 0, kept: kept > 0 }
+    }
     pub fn said(&self) -> String {
         said(self.answer.as_ref().err().copied().unwrap_or(0))
     }
@@ -51,6 +62,9 @@ pub fn of_rows(rows: usize) -> String {
 pub fn named(set: usize) -> String {
     PARAMETERS.iter().enumerate().filter(|(i, _)| set >> i & 1 == 1).map(|(_, name)| *name).collect::<Vec<_>>().join(" and ")
 }
+
+/// What a run might go by in place of the set's tolerance, rounds or row limit.
+pub const OTHERS: [&str; 3] = ["the tolerance 1e-9", "200 rounds", "the row limit 800"];
 
 /// The kinds that must be met, or those that a list is to show, which has fewer refusals.
 fn want(for_a_list: bool) -> Cover {
@@ -112,10 +126,13 @@ fn want(for_a_list: bool) -> Cover {
     }
     all.push("a coarse tolerance takes fewer rounds than 1e-9".into());
     all.push("a fine tolerance takes more rounds than 1e-9".into());
-    for parameter in &PARAMETERS[..3] {
-        all.extend(["first", "second"].map(|run| format!("another answer if the {run} run had the plain {parameter}")));
+    for what in OTHERS {
+        all.extend(["first", "second"].map(|run| format!("another answer if the {run} run had {what}")));
     }
-    all.push("another answer if the drag weight were plain".into());
+    if !for_a_list {
+        all.extend(["first", "second"].map(|run| format!("another answer if the {run} run had 60 rounds")));
+    }
+    all.push("another answer if the drag weight were 10000".into());
     all.push("another answer if the rounds of both runs were counted together".into());
     for what in [
         "drag weight 1 gives the answer of no drag, 10000 another",
@@ -128,7 +145,10 @@ fn want(for_a_list: bool) -> Cover {
     ] {
         all.push(what.into());
     }
-    all.push("the plain set, iterated".into());
+    all.push("200 rounds and else the plain set, iterated".into());
+    if !for_a_list {
+        all.push("the plain set, iterated".into());
+    }
     LAWS.iter().for_each(|law| all.push(format!("any set, {law} iterated")));
     for how in ["stands", "converges", "converges in the second run", "does not converge", "does not converge, nothing may move"] {
         all.extend(["with gears", "without gears"].map(|gears| format!("any set, {how}, {gears}")));
@@ -139,16 +159,39 @@ fn want(for_a_list: bool) -> Cover {
     cover
 }
 
+/// What was met, what no listed call shows, and the sheets and calls that are listed.
+pub struct Kinds {
+    pub cover: Cover,
+    unlisted: Cover,
+    pub listed: Vec<(Vec<u8>, Vec<Call>)>,
+}
+
+impl Kinds {
+    /// Those that must be met, and those that a list is to show.
+    pub fn new(cover: Cover, unlisted: Cover) -> Kinds {
+        Kinds { cover, unlisted, listed: Vec::new() }
+    }
+    /// Counts a kind, and lists the call if it is the first small one of that kind.
+    pub fn meet(&mut self, kind: &str, asked: &Asked) {
+        self.cover.meet(kind);
+        if self.unlisted.lacks(kind) && asked.bytes.len() < 2000 {
+            self.unlisted.meet(kind);
+            match self.listed.iter_mut().find(|(bytes, _)| *bytes == asked.bytes) {
+                Some((_, calls)) if calls.contains(&asked.call) => {}
+                Some((_, calls)) => calls.push(asked.call),
+                None => self.listed.push((asked.bytes.clone(), vec![asked.call])),
+            }
+        }
+    }
+}
+
 /// What asks the calls, and what was met.
 pub struct Trials<'a> {
-    ask: &'a mut dyn FnMut(&[u8], Call) -> Result<Answer, u32>,
+    ask: Ask<'a>,
     pub rng: Rng,
-    cover: Cover,
+    kinds: Kinds,
     /// The plain set beside the call without a set.
     pub plain: Tally,
-    /// What no listed call shows, and the sheets and calls that are listed.
-    unlisted: Cover,
-    listed: Vec<(Vec<u8>, Vec<Call>)>,
     /// How many sheets may yet be worked on for many rounds.
     pub long: usize,
 }
@@ -157,17 +200,13 @@ pub struct Trials<'a> {
 pub type With = (u16, Set);
 
 impl<'a> Trials<'a> {
-    fn new(seed: u64, ask: &'a mut dyn FnMut(&[u8], Call) -> Result<Answer, u32>) -> Trials<'a> {
+    fn new(seed: u64, ask: Ask<'a>) -> Trials<'a> {
         let plain = Tally::new("the plain set and no set, by the Rust");
-        Trials { ask, rng: Rng(seed), cover: want(false), plain, unlisted: want(true), listed: Vec::new(), long: 12 }
+        Trials { ask, rng: Rng(seed), kinds: Kinds::new(want(false), want(true)), plain, long: 12 }
     }
 
     pub fn call(&mut self, bytes: &[u8], call: Call) -> Asked {
-        let counters = || taken(["lm::solve: round", "solve: tried again", "solve: retry kept, converged or smaller"]);
-        let before = counters();
-        let answer = (self.ask)(bytes, call);
-        let [rounds, again, kept] = [0, 1, 2].map(|i| counters()[i] - before[i]);
-        Asked { bytes: bytes.to_vec(), call, answer, rounds, again: again > 0, kept: kept > 0 }
+        Asked::of(self.ask, bytes, call)
     }
 
     /// A call that is lent enough, at times more.
@@ -191,17 +230,8 @@ impl<'a> Trials<'a> {
         asked
     }
 
-    /// Counts a kind, and lists the call if it is the first small one of that kind.
     pub fn meet(&mut self, kind: &str, asked: &Asked) {
-        self.cover.meet(kind);
-        if self.unlisted.lacks(kind) && asked.bytes.len() < 2000 {
-            self.unlisted.meet(kind);
-            match self.listed.iter_mut().find(|(bytes, _)| *bytes == asked.bytes) {
-                Some((_, calls)) if calls.contains(&asked.call) => {}
-                Some((_, calls)) => calls.push(asked.call),
-                None => self.listed.push((asked.bytes.clone(), vec![asked.call])),
-            }
-        }
+        self.kinds.meet(kind, asked);
     }
 
     fn lengths(&mut self, sheet: &Sheet, asked: &Asked) {
@@ -259,15 +289,27 @@ impl<'a> Trials<'a> {
             self.meet("over the row limit, stands by over 1e-9", asked);
         }
     }
+}
 
-    /// The rounds of each run. The first's are those that are made if the second is allowed no rows.
-    pub fn rounds_of_runs(&self, sheet: &Sheet, (drag, set): With, asked: &Asked) -> [u64; 2] {
-        let counter = || taken(["lm::solve: round"])[0];
-        let before = counter();
-        whole::by_runs(sheet, drag, [set, Set { row_limit: 0, ..set }]);
-        let first = counter() - before;
-        [first, asked.rounds - first]
+/// The rounds of each run. The first's are those that are made if the second is allowed no rows.
+pub fn rounds_of_runs(sheet: &Sheet, (drag, set): With, asked: &Asked) -> [u64; 2] {
+    if !asked.again {
+        return [asked.rounds, 0];
     }
+    let counter = || taken(["lm::solve: round"])[0];
+    let before = counter();
+    whole::by_runs(sheet, drag, [set, Set { row_limit: 0, ..set }]);
+    let first = counter() - before;
+    [first, asked.rounds - first]
+}
+
+/// The sheets in these files.
+pub fn sheets_in(files: &[&str]) -> Vec<Sheet> {
+    let sheet = |file: &&str| {
+        let bytes = std::fs::read(file).unwrap_or_else(|e| panic!("{file}: {e}"));
+        read(&bytes).unwrap_or_else(|number| panic!("{file} is refused by {number}"))
+    };
+    files.iter().map(sheet).collect()
 }
 
 /// Sheets and calls for a list: each shows a kind that none before it does.
@@ -275,20 +317,16 @@ pub fn listed(seed: u64, n: usize) -> Vec<(Vec<u8>, Vec<Call>)> {
     let mut ask = whole::answer;
     let mut trials = Trials::new(seed, &mut ask);
     trials.cases(n, &[]);
-    trials.listed
+    trials.kinds.listed
 }
 
 /// The library against the Rust on N sheets by seed, on others, and on those in these files.
 pub fn run(seed: u64, n: usize, files: &[&str]) -> bool {
-    let sheets = files.iter().map(|file| {
-        let bytes = std::fs::read(file).unwrap_or_else(|e| panic!("{file}: {e}"));
-        read(&bytes).unwrap_or_else(|number| panic!("{file} is refused by {number}"))
-    });
-    let sheets: Vec<Sheet> = sheets.collect();
+    let sheets = sheets_in(files);
     let mut library = Library::new("parameters", &[3, 5]);
     let mut ask = |bytes: &[u8], call: Call| library.ask(bytes, call);
     let mut trials = Trials::new(seed, &mut ask);
     trials.cases(n, &sheets);
-    let good = trials.plain.done() & trials.cover.done();
+    let good = trials.plain.done() & trials.kinds.cover.done();
     library.done() & good
 }

@@ -418,7 +418,7 @@ impl Schedules<'_> {
                 for rows in [0.3, 4.0] {
                     let mut state = vec![1e-3];
                     state.resize(1 + whole::rows(sheet), rows);
-                    let with = (GROUND, Set { rounds: 5, ..Set::PLAIN });
+                    let with = (GROUND, Set { rounds: 5, ..Set::TWO_HUNDRED });
                     self.from(sheet, &Held { done: 1, run, state }, with, 3, &[format!("run {run}, {what}")]);
                 }
             }
@@ -433,7 +433,7 @@ impl Schedules<'_> {
             let told = self.from(
                 &sheet,
                 &Held { done: 1, run, state },
-                (GROUND, Set::PLAIN),
+                (GROUND, Set::TWO_HUNDRED),
                 1000,
                 &[format!("run {run}, over 800 rows, {what} the tolerance")],
             );
@@ -491,7 +491,7 @@ impl Schedules<'_> {
         let said = said(told.as_ref().err().copied().unwrap_or(0));
         self.meet(&mut caller, &kind(&said));
         if told.is_err() {
-            self.on(&mut caller, (GROUND, Set::PLAIN), 1);
+            self.on(&mut caller, (GROUND, Set::TWO_HUNDRED), 1);
         }
         self.over(caller);
         told
@@ -631,7 +631,7 @@ impl Schedules<'_> {
             (of_many_rows(801), "801 rows", false),
         ];
         for (sheet, size, iterated) in sizes {
-            let set = Set { rounds: 2, tolerance: LEAST_TOLERANCE, ..Set::PLAIN };
+            let set = Set { rounds: 2, tolerance: LEAST_TOLERANCE, ..Set::TWO_HUNDRED };
             let (mut caller, drag) = (Caller::of(&sheet), 0);
             let first = self.begin(&mut caller, (drag, set), 1);
             assert_eq!(first.rounds[0] > 0, iterated);
@@ -651,7 +651,7 @@ impl Schedules<'_> {
     fn scratch(&mut self, sheet: &Sheet) {
         let (figure, mut caller) = (Figure::of(sheet), Caller::of(sheet));
         let ([state, poses, frames, errors, _], counts) = (caller.need, caller.counts.map(|count| count as u32));
-        let set = Set { rounds: 2, tolerance: LEAST_TOLERANCE, ..Set::PLAIN };
+        let set = Set { rounds: 2, tolerance: LEAST_TOLERANCE, ..Set::TWO_HUNDRED };
         for (counts, scratch) in [None, Some(counts)].into_iter().flat_map(|counts| [figure.need - 1, figure.need].map(|n| (counts, n))) {
             let call = Portion { counts, drag: GROUND, set, portion: 1, state, scratch, poses, frames, errors };
             let number = self.call(&mut caller, call).err().unwrap_or(0);

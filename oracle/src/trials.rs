@@ -5,10 +5,10 @@ use crate::answer::{Call, Set, words};
 use crate::compare::kept;
 use crate::cover::LAWS;
 use crate::generate;
-use crate::parameters::{Asked, SLICES, Trials, With, named, of_rows};
+use crate::parameters::{Asked, OTHERS, SLICES, Trials, With, named, of_rows, rounds_of_runs};
 use crate::plain::{list, vec3};
 use crate::rng::Rng;
-use crate::sets::{self, LEAST_TOLERANCE, MOST_ROWS, MOST_TOLERANCE, PARAMETERS};
+use crate::sets::{self, LEAST_TOLERANCE, MOST_ROWS, MOST_TOLERANCE};
 use crate::sheet::*;
 use crate::{trains, whole};
 use tenon::math::M3;
@@ -149,16 +149,20 @@ impl Trials<'_> {
         }
     }
 
-    /// A call without a set, and the plain set.
-    fn plain(&mut self, sheet: &Sheet, drag: u16) -> Asked {
+    /// A call without a set, and the plain set; then 200 rounds, which is given back.
+    fn named(&mut self, sheet: &Sheet, drag: u16) -> Asked {
         let call = self.lent(sheet, drag, None);
         let bare = self.call(&sheet.bytes(), call);
-        let plain = self.solve(sheet, (drag, Set::PLAIN));
+        let Call::Solve { scratch, poses, frames, errors, .. } = call else { unreachable!() };
+        let plain = self.call(&sheet.bytes(), Call::Solve { drag, set: Some(Set::PLAIN), scratch, poses, frames, errors });
         self.plain.case(bare.same(&plain), || format!("drag {drag}, {}", kept("plain-set", &plain.bytes)));
-        if plain.rounds > 0 {
-            self.meet("the plain set, iterated", &plain);
+        let named = self.solve(sheet, (drag, Set::TWO_HUNDRED));
+        for (asked, set) in [(&plain, "the plain set"), (&named, "200 rounds and else the plain set")] {
+            if asked.rounds > 0 {
+                self.meet(&format!("{set}, iterated"), asked);
+            }
         }
-        plain
+        named
     }
 
     /// Row limits about the sheet's rows, with few rounds.
@@ -189,7 +193,7 @@ impl Trials<'_> {
             (2, false) => self.meet("rounds, 1 does not converge in either run", &one),
             _ => {}
         }
-        let [first, second] = self.rounds_of_runs(sheet, with(40), &all);
+        let [first, second] = rounds_of_runs(sheet, with(40), &all);
         let (k, run) = if all.again { (second, " in the second run") } else { (first, "") };
         if !all.flag() || k < 2 {
             return;
@@ -204,21 +208,21 @@ impl Trials<'_> {
         }
     }
 
-    /// More than 200 rounds, on a small sheet that takes them all.
-    fn many_rounds(&mut self, sheet: &Sheet, drag: u16, plain: &Asked) {
-        if self.long == 0 || plain.rounds < 200 || whole::rows(sheet) > 15 {
+    /// More than 200 rounds, on a small sheet that takes as many. `named` is the answer with 200.
+    fn many_rounds(&mut self, sheet: &Sheet, drag: u16, named: &Asked) {
+        if self.long == 0 || named.rounds < 200 || whole::rows(sheet) > 15 {
             return;
         }
         self.long -= 1;
-        let with = |rounds: u32| (drag, Set { rounds, ..Set::PLAIN });
+        let with = |rounds: u32| (drag, Set { rounds, ..Set::TWO_HUNDRED });
         let [next, before, most] = [201, 999, 1000].map(|rounds| self.solve(sheet, with(rounds)));
-        let [first, second] = self.rounds_of_runs(sheet, with(1000), &most);
+        let [first, second] = rounds_of_runs(sheet, with(1000), &most);
         for (met, what) in [
             (first > 200 && !most.kept, "more than 200 in the first run, which is kept"),
             (second > 200 && most.kept, "more than 200 in the second run, which is kept"),
             (first.max(second) == 1000, "1000 in one run"),
-            (!next.same(plain), "201 give another answer than 200"),
-            (!most.same(plain), "1000 give another answer than 200"),
+            (!next.same(named), "201 give another answer than 200"),
+            (!most.same(named), "1000 give another answer than 200"),
             (!most.same(&before), "1000 give another answer than 999"),
         ] {
             if met {
@@ -339,19 +343,18 @@ impl Trials<'_> {
     /// Whether the answer would be another if one of the runs went by another set.
     fn other_runs(&mut self, sheet: &Sheet, (drag, set): With, asked: &Asked) {
         let differs = |of_runs: [Set; 2]| words(&Ok(whole::by_runs(sheet, drag, of_runs))) != words(&asked.answer);
-        let plain = Set::PLAIN;
-        let others = [Set { tolerance: plain.tolerance, ..set }, Set { rounds: plain.rounds, ..set }, Set { row_limit: plain.row_limit, ..set }];
-        for (other, parameter) in others.into_iter().zip(PARAMETERS) {
+        let others = [Set { tolerance: 1e-9, ..set }, Set { rounds: 200, ..set }, Set { row_limit: 800, ..set }];
+        for (other, what) in others.into_iter().zip(OTHERS).chain([(Set { rounds: 60, ..set }, "60 rounds")]) {
             for (of_runs, run) in [([other, set], "first"), ([set, other], "second")] {
                 if other != set && differs(of_runs) {
-                    self.meet(&format!("another answer if the {run} run had the plain {parameter}"), asked);
+                    self.meet(&format!("another answer if the {run} run had {what}"), asked);
                 }
             }
         }
-        if drag != GROUND && differs([Set { drag_weight: plain.drag_weight, ..set }; 2]) {
-            self.meet("another answer if the drag weight were plain", asked);
+        if drag != GROUND && differs([Set { drag_weight: 1e4, ..set }; 2]) {
+            self.meet("another answer if the drag weight were 10000", asked);
         }
-        let [first, second] = self.rounds_of_runs(sheet, (drag, set), asked);
+        let [first, second] = rounds_of_runs(sheet, (drag, set), asked);
         if second > 0 && differs([set, Set { rounds: set.rounds.saturating_sub(first as u32), ..set }]) {
             self.meet("another answer if the rounds of both runs were counted together", asked);
         }
@@ -374,9 +377,9 @@ impl Trials<'_> {
     /// All that is asked about a sheet.
     fn sheet(&mut self, sheet: &Sheet) {
         let drag = self.drag(sheet);
-        let plain = self.plain(sheet, drag);
-        self.many_rounds(sheet, drag, &plain);
-        if plain.flag() && self.rng.one_in(4) {
+        let named = self.named(sheet, drag);
+        self.many_rounds(sheet, drag, &named);
+        if named.flag() && self.rng.one_in(4) {
             self.ranges(sheet);
         }
         for _ in 0..6 {

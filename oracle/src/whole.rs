@@ -33,6 +33,10 @@ pub fn by_runs(sheet: &Sheet, drag: u16, sets: [Set; 2]) -> Answer {
 pub fn report(input: &[u8]) -> String {
     if has_gear(input) { with_gears::report(input) } else { plain::report(input) }
 }
+/// What it would print if it solved without a set.
+pub fn report_without(input: &[u8]) -> String {
+    if has_gear(input) { with_gears::report_by(input, None) } else { plain::report_by(input, None) }
+}
 
 /// The scratch in doubles that `solve` and `dof` need. Both copies count the same where there is no gear.
 pub fn scratch(sheet: &Sheet) -> (usize, usize) {

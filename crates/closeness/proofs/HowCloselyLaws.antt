@@ -24,9 +24,9 @@ use Rattle.relations.specs.Geometry.{Pose}
 use Rattle.relations.specs.Model.{Body, Rel, poseOfFrame}
 use Rattle.relations.specs.Rows.{ground}
 use Rattle.least_squares.specs.Lm.{State, Tried, Outcome, listOf, norm2, judged, stepWith, trial, trials, oneRound, rounds, run, inverseWeight}
-use Rattle.scene.specs.Solve.{Scene, named, moves, layoutFrom, unknowns, poseAt, posesFrom, posesAt, rowsAt, allRows, rowsOf, Parameters, FINEST, COARSEST, fromTo, inRange, weights, startAt, slightTurn, runFrom, better, solved, framesFrom, solveWith}
+use Rattle.scene.specs.Solve.{Scene, named, moves, layoutFrom, unknowns, poseAt, posesFrom, posesAt, rowsAt, allRows, rowsOf, Parameters, plain, FINEST, COARSEST, fromTo, inRange, weights, startAt, slightTurn, runFrom, better, solved, framesFrom, solveWith}
 use Rattle.closeness.proofs.RowBoundLaws.{error-bound}
-use Rattle.closeness.specs.HowClosely.{allWithin, HowClosely, AllSmall, Closeness, roundsOf, RoundsEnd}
+use Rattle.closeness.specs.HowClosely.{allWithin, HowClosely, AllSmall, Closeness, roundsOf, RoundsEnd, PlainRoundsEnd}
 
 -- what holds on each side of a test holds, for each of the two ways to write the test
 pub picked : {A : Type 0} (P : A → Type 0) (b : Bool) (x y : A) → (b ≡ true → P x) → (b ≡ false → P y) → P (cond b x y)
@@ -69,6 +69,9 @@ rounds-end s p drag =
     let a = run-rounds (rowsOf s) winv (p .tolerance) (p .rounds) (p .rowLimit) (listOf startAt (unknowns s)) in
     let b = run-rounds (rowsOf s) winv (p .tolerance) (p .rounds) (p .rowLimit) (listOf slightTurn (unknowns s)) in
     either (λ (n : ℕ). n ≤ 2 * p .rounds) (runFrom s p drag (listOf startAt (unknowns s)) .converged || eqb (unknowns s) 0) _ _ (λ e. omega arith) (λ e. omega arith)
+
+pub plain-rounds-end : PlainRoundsEnd
+plain-rounds-end s drag = rounds-end s plain drag
 
 -- ---- a state's rows are those of its unknowns
 

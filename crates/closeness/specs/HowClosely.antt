@@ -1,5 +1,5 @@
 -- Demand 3, how closely, and the end of the work: what holds of every answer of `solve`. Document 01, "The words of demand 3". Definitions and statements;
--- proofs/HowCloselyLaws.antt has the proofs, `how-closely` and `rounds-end`.
+-- proofs/HowCloselyLaws.antt has the proofs, `how-closely`, `rounds-end` and `plain-rounds-end`.
 use Prim.Native.Nat.{ℕ, _+_, _*_, _≤_, _<_}
 use mathlib.Core.Path.{_≡_}
 use mathlib.Core.Bool.{Bool, true, false, _&&_, _||_}
@@ -14,7 +14,7 @@ use Rattle.relations.specs.Geometry.{Pose}
 use Rattle.relations.specs.Model.{Body, Rel, poseOfFrame}
 use Rattle.relations.specs.Rows.{ground}
 use Rattle.least_squares.specs.Lm.{listOf}
-use Rattle.scene.specs.Solve.{Scene, Solution, Parameters, inRange, names, named, unknowns, posesAt, startAt, slightTurn, runFrom, solveWith}
+use Rattle.scene.specs.Solve.{Scene, Solution, Parameters, plain, inRange, names, named, unknowns, posesAt, startAt, slightTurn, runFrom, solveWith}
 use Rattle.closeness.specs.RowBound.{TEN-MILLION, smallPose, smallRel, exactLaw, unroundedError}
 
 -- every error is at most the tolerance
@@ -59,3 +59,7 @@ roundsOf s p drag =
 -- at most two runs of the chosen rounds
 abbrev pub RoundsEnd : Type 0
 RoundsEnd = (s : Scene) (p : Parameters) (drag : Option ℕ) → roundsOf s p drag ≤ 2 * p .rounds
+
+-- without a choice, at most two runs of 60
+abbrev pub PlainRoundsEnd : Type 0
+PlainRoundsEnd = (s : Scene) (drag : Option ℕ) → roundsOf s plain drag ≤ 2 * 60

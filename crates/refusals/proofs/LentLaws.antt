@@ -62,15 +62,20 @@ pub solve-parts : (s : List ℕ) (p : Parameters) (drag scratch poses frames err
 unfolding solveWithFault lentFault solveLong
 solve-parts s p drag scratch poses frames errors = call-then s p drag _
 
+-- a call whose parameters are all in range is refused by 8, 10 and 9 alone, once its sheet passes
+pub range-fault : (s : List ℕ) (p : Parameters) (drag scratch poses frames errors : ℕ) → inRange p ≡ true
+    → solveWithFault s p drag scratch poses frames errors ≡ orElse (sheetFault s) (orElse (dragFault s drag) (solveLentFault s scratch poses frames errors))
+unfolding solveWithFault lentFault solveLong
+range-fault s p drag scratch poses frames errors e = rw e
+
 plain-range : inRange plain ≡ true
 unfolding inRange le lt eq ofBits
 plain-range = refl
 
--- a call that chooses nothing is refused by 8, 10 and 9 alone, once its sheet passes
+-- so is a call that chooses nothing
 pub plain-fault : (s : List ℕ) (drag scratch poses frames errors : ℕ)
     → solveFault s drag scratch poses frames errors ≡ orElse (sheetFault s) (orElse (dragFault s drag) (solveLentFault s scratch poses frames errors))
-unfolding solveWithFault lentFault solveLong
-plain-fault s drag scratch poses frames errors = rw plain-range
+plain-fault s drag scratch poses frames errors = range-fault s plain drag scratch poses frames errors plain-range
 
 pub dof-first : (s : List ℕ) (scratch freedoms f : ℕ) → f ≡ sheetFault s → (f ≡ 0 → ⊥) → f ≡ dofFault s scratch freedoms
 unfolding dofFault

@@ -1,12 +1,27 @@
--- The cases of specs/ReportCases.antt hold. By evaluation. Assumes nothing.
-use mathlib.Core.Path.{refl}
-use lib.Ieee.{ofBits, toBits, eq, size}
-use Rattle.format.specs.Faults.{headerFault, sheetFault}
-use Rattle.refusals.specs.Refusals.{solveWithFault}
+-- The cases of specs/ReportCases.antt hold: by evaluation, and the refusals since what `report` names is within the ranges (`report-range`). Assumes nothing.
+use Prim.Native.Nat.{ℕ}
+use mathlib.Core.Path.{_≡_, refl, sym, ap, _∙_}
+use mathlib.Core.Bool.{true}
+use mathlib.Core.List.{List}
+use lib.Ieee.{ofBits, toBits, eq, lt, le, size}
+use Rattle.scene.specs.Solve.{inRange}
+use Rattle.format.specs.Faults.{orElse, headerFault, sheetFault}
+use Rattle.refusals.specs.Refusals.{solveWithFault, solveFault, dofFault}
+use Rattle.refusals.proofs.LentLaws.{range-fault, plain-fault}
 use Rattle.writing.specs.Bytes.{joined}
 use Rattle.report.specs.Report.{digits, placesIn, countDigit}
-use Rattle.report.specs.ReportOf.{numberOf, reportOf}
+use Rattle.report.specs.ReportOf.{reportParameters, numberOf, reportOf}
 use Rattle.report.specs.ReportCases.{Report-cases}
+
+report-range : inRange reportParameters ≡ true
+unfolding inRange le lt eq ofBits
+report-range = refl
+
+refused-as-bare : (s : List ℕ) → numberOf s ≡ orElse (solveFault s 65535 8192 768 768 128) (dofFault s 8192 1856)
+unfolding numberOf
+refused-as-bare s =
+    ap (λ (n : ℕ). orElse n (dofFault s 8192 1856))
+    (range-fault s reportParameters 65535 8192 768 768 128 report-range ∙ sym (plain-fault s 65535 8192 768 768 128))
 
 pub report-cases : Report-cases
 unfolding digits placesIn countDigit joined ofBits toBits eq size reportOf numberOf solveWithFault sheetFault headerFault
@@ -19,5 +34,6 @@ report-cases =
       nothing-listed = refl;
       more-digits = refl;
       not-finite = refl;
+      refused-alike = refused-as-bare;
       nothing-read = refl;
     }

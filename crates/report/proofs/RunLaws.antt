@@ -12,10 +12,9 @@ use borrow.Author.Tests.{eq-eqb, ne-eqb}
 use Rattle.body_freedom.specs.Layout.{freedomsDoubles}
 use Rattle.format.specs.Format.{bodiesOf, relationsOf}
 use Rattle.format.specs.Faults.{sheetFault}
-use Rattle.scene.specs.Solve.{plain}
-use Rattle.refusals.specs.Refusals.{solveFault, dofFault}
+use Rattle.refusals.specs.Refusals.{solveWithFault, dofFault}
 use Rattle.records.specs.Numbers.{flagNumber}
-use Rattle.sheet.specs.Solving.{solutionOf, SolveAnswer}
+use Rattle.sheet.specs.Solving.{SolveWithAnswer}
 use Rattle.sheet.specs.Freedoms.{freedomsOf, DofAnswer}
 use Rattle.format.proofs.RefusalLaws.{first, later}
 use Rattle.refusals.proofs.NumberLaws.{solve-le, dof-le}
@@ -24,7 +23,7 @@ use Rattle.refusals.proofs.FigureLaws.{counted}
 use Rattle.writing.specs.Bytes.{joined, Put}
 use Rattle.writing.proofs.PutLaws.{put-as}
 use Rattle.report.specs.Report.{relationLine, bodyLine, relationLines, bodyLines, answerText, refusedText}
-use Rattle.report.specs.ReportOf.{numberOf, answerOf, reportOf}
+use Rattle.report.specs.ReportOf.{reportParameters, reportSolution, numberOf, answerOf, reportOf}
 
 -- a text with equal counts
 pub put-counted : (s t : List ℕ) (o r : ℕ) (b : Bool) (errors : List Float) (k k' free : ℕ) (freedoms : List Float) (m m' : ℕ) → k ≡ k' → m ≡ m'
@@ -70,8 +69,8 @@ front-length l s t k e q h =
 -- ---- a refusal
 
 -- its number has at most five digits
-pub solve-small : (s : List ℕ) (drag r scratch poses frames errors : ℕ) → r ≡ solveFault s drag scratch poses frames errors → r < 100000
-solve-small s drag r scratch poses frames errors e = omega (arith, e, solve-le s plain drag scratch poses frames errors)
+pub solve-small : (s : List ℕ) (drag r scratch poses frames errors : ℕ) → r ≡ solveWithFault s reportParameters drag scratch poses frames errors → r < 100000
+solve-small s drag r scratch poses frames errors e = omega (arith, e, solve-le s reportParameters drag scratch poses frames errors)
 
 pub dof-small : (s : List ℕ) (r scratch freedoms : ℕ) → r ≡ dofFault s scratch freedoms → r < 100000
 dof-small s r scratch freedoms e = omega (arith, e, dof-le s scratch freedoms)
@@ -82,25 +81,25 @@ refused-number s n e ne =
     sym (ap (λ (t : Bool). cond t (answerOf s) (refusedText n)) (ne-eqb n 0 ne)) ∙ (λ i. cond (eqb (e i) 0) (answerOf s) (refusedText (e i)))
 
 -- the numbers of the calls are those for the lengths that `report` lends
-pub solve-number : (s : List ℕ) (r a b c d : ℕ) → a ≡ 8192 → b ≡ 768 → c ≡ 768 → d ≡ 128 → r ≡ solveFault s 65535 a b c d → r ≡ solveFault s 65535 8192 768 768 128
-solve-number s r a b c d p q u v e = e ∙ (λ i. solveFault s 65535 (p i) (q i) (u i) (v i))
+pub solve-number : (s : List ℕ) (r a b c d : ℕ) → a ≡ 8192 → b ≡ 768 → c ≡ 768 → d ≡ 128 → r ≡ solveWithFault s reportParameters 65535 a b c d → r ≡ solveWithFault s reportParameters 65535 8192 768 768 128
+solve-number s r a b c d p q u v e = e ∙ (λ i. solveWithFault s reportParameters 65535 (p i) (q i) (u i) (v i))
 
 pub dof-number : (s : List ℕ) (r a b : ℕ) → a ≡ 8192 → b ≡ 1856 → r ≡ dofFault s a b → r ≡ dofFault s 8192 1856
 dof-number s r a b p q e = e ∙ (λ i. dofFault s (p i) (q i))
 
-pub first-refused : (s : List ℕ) (r : ℕ) → r ≡ solveFault s 65535 8192 768 768 128 → (r ≡ 0 → ⊥) → refusedText r ≡ reportOf s
+pub first-refused : (s : List ℕ) (r : ℕ) → r ≡ solveWithFault s reportParameters 65535 8192 768 768 128 → (r ≡ 0 → ⊥) → refusedText r ≡ reportOf s
 unfolding numberOf
-first-refused s r e ne = refused-number s r (first _ (solveFault s 65535 8192 768 768 128) (dofFault s 8192 1856) r refl e ne) ne
+first-refused s r e ne = refused-number s r (first _ (solveWithFault s reportParameters 65535 8192 768 768 128) (dofFault s 8192 1856) r refl e ne) ne
 
-pub second-refused : (s : List ℕ) (q r : ℕ) → q ≡ solveFault s 65535 8192 768 768 128 → q ≡ 0 → r ≡ dofFault s 8192 1856 → (r ≡ 0 → ⊥) → refusedText r ≡ reportOf s
+pub second-refused : (s : List ℕ) (q r : ℕ) → q ≡ solveWithFault s reportParameters 65535 8192 768 768 128 → q ≡ 0 → r ≡ dofFault s 8192 1856 → (r ≡ 0 → ⊥) → refusedText r ≡ reportOf s
 unfolding numberOf
-second-refused s q r h z e ne = refused-number s r (later _ (solveFault s 65535 8192 768 768 128) (dofFault s 8192 1856) q r refl h z e) ne
+second-refused s q r h z e ne = refused-number s r (later _ (solveWithFault s reportParameters 65535 8192 768 768 128) (dofFault s 8192 1856) q r refl h z e) ne
 
 -- ---- an answer
 
-number-none : (s : List ℕ) (q r : ℕ) → q ≡ solveFault s 65535 8192 768 768 128 → q ≡ 0 → r ≡ dofFault s 8192 1856 → r ≡ 0 → numberOf s ≡ 0
+number-none : (s : List ℕ) (q r : ℕ) → q ≡ solveWithFault s reportParameters 65535 8192 768 768 128 → q ≡ 0 → r ≡ dofFault s 8192 1856 → r ≡ 0 → numberOf s ≡ 0
 unfolding numberOf
-number-none s q r h z e y = sym (later _ (solveFault s 65535 8192 768 768 128) (dofFault s 8192 1856) q r refl h z e) ∙ y
+number-none s q r h z e y = sym (later _ (solveWithFault s reportParameters 65535 8192 768 768 128) (dofFault s 8192 1856) q r refl h z e) ∙ y
 
 answer-printed : (s : List ℕ) → numberOf s ≡ 0 → answerOf s ≡ reportOf s
 unfolding reportOf
@@ -132,28 +131,28 @@ module _ (s : List ℕ) (r : ℕ) (scratch scratch' freedoms freedoms' : List Fl
 
 -- what an accepted `solve` says
 module _ (s : List ℕ) (q : ℕ) (scratch scratch' poses poses' frames frames' errors errors' : List Float) (flag flag' : ℕ)
-    (x : SolveAnswer s 65535 q scratch scratch' poses poses' frames frames' errors errors' flag flag') (z : q ≡ 0) where
-  converged-is : eqb flag' 1 ≡ solutionOf s 65535 .converged
+    (x : SolveWithAnswer s reportParameters 65535 q scratch scratch' poses poses' frames frames' errors errors' flag flag') (z : q ≡ 0) where
+  converged-is : eqb flag' 1 ≡ reportSolution s .converged
   converged-is =
-      flag-back (solutionOf s 65535 .converged) flag'
-      (x .flag-is ∙ ap (λ (b : Bool). cond b (flagNumber (solutionOf s 65535 .converged)) flag) (eq-eqb q 0 z))
+      flag-back (reportSolution s .converged) flag'
+      (x .flag-is ∙ ap (λ (b : Bool). cond b (flagNumber (reportSolution s .converged)) flag) (eq-eqb q 0 z))
 
-  errors-are : errors' ≡ solutionOf s 65535 .errors ++ drop (relationsOf s) errors
-  errors-are = x .errors-are ∙ ap (λ (b : Bool). cond b (solutionOf s 65535 .errors ++ drop (relationsOf s) errors) errors) (eq-eqb q 0 z)
+  errors-are : errors' ≡ reportSolution s .errors ++ drop (relationsOf s) errors
+  errors-are = x .errors-are ∙ ap (λ (b : Bool). cond b (reportSolution s .errors ++ drop (relationsOf s) errors) errors) (eq-eqb q 0 z)
 
   -- both answers, as `report` prints them
   pub answered : (r : ℕ) (again again' freedoms freedoms' : List Float) (free free' : ℕ) → DofAnswer s r again again' freedoms freedoms' free free' → r ≡ 0
-      → q ≡ solveFault s 65535 8192 768 768 128 → r ≡ dofFault s 8192 1856 → length errors ≡ 128 → length errors' ≡ length errors → length freedoms' ≡ length freedoms
+      → q ≡ solveWithFault s reportParameters 65535 8192 768 768 128 → r ≡ dofFault s 8192 1856 → length errors ≡ 128 → length errors' ≡ length errors → length freedoms' ≡ length freedoms
       → answerText (eqb flag' 1) errors' (relationsOf s) free' freedoms' (bodiesOf s) ≡ reportOf s
   answered r again again' freedoms freedoms' free free' y w h g l a b =
       let n = counted s (sheet-passes s r again again' freedoms freedoms' free free' y w) in
-      let j = front-length (solutionOf s 65535 .errors) errors errors' (relationsOf s) errors-are a (omega (arith, n .1)) in
+      let j = front-length (reportSolution s .errors) errors errors' (relationsOf s) errors-are a (omega (arith, n .1)) in
       let k = freedoms-size s r again again' freedoms freedoms' free free' y w b in
       let c = converged-is in
       let e = errors-are in
       let f = free-is s r again again' freedoms freedoms' free free' y w in
       let d = freedoms-are s r again again' freedoms freedoms' free free' y w in
       (λ i. answerText (c i) (e i) (relationsOf s) (f i) (d i) (bodiesOf s))
-      ∙ answer-front (solutionOf s 65535 .converged) (solutionOf s 65535 .errors) (drop (relationsOf s) errors) (relationsOf s) (freedomsOf s .total)
+      ∙ answer-front (reportSolution s .converged) (reportSolution s .errors) (drop (relationsOf s) errors) (relationsOf s) (freedomsOf s .total)
       (freedomsDoubles (freedomsOf s .bodies)) (drop (29 * bodiesOf s) freedoms) (bodiesOf s) (omega arith) (omega arith)
       ∙ answer-printed s (number-none s q r h z g w)

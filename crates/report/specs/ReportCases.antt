@@ -1,13 +1,16 @@
--- Document 01's worked example of `report`, a line of each kind with numbers of several digits, and the report of an empty input, held against the bytes of the text.
--- "What a call says". proofs/ReportCaseLaws.antt has the proof, `report-cases`. Definitions and statements.
+-- Document 01's worked example of `report`, a line of each kind with numbers of several digits, and the report of an empty input, held against the bytes of the text; and its
+-- refusals beside those of a call that chooses nothing. "What a call says". proofs/ReportCaseLaws.antt has the proof, `report-cases`. Definitions and statements.
+use Prim.Native.Nat.{ℕ}
 use mathlib.Core.Path.{_≡_}
 use mathlib.Core.Bool.{true, false}
-use mathlib.Core.List.{[], _∷_, _++_}
+use mathlib.Core.List.{List, [], _∷_, _++_}
 use lib.ListN.{replicate}
 use lib.Ieee.{nan, inf, binary64, ofBits}
 use Rattle.numbers.specs.Double.{zero64}
+use Rattle.format.specs.Faults.{orElse}
+use Rattle.refusals.specs.Refusals.{solveFault, dofFault}
 use Rattle.report.specs.Report.{answerText, refusedText, relationLine, bodyLine, decimal, bitsText}
-use Rattle.report.specs.ReportOf.{reportOf}
+use Rattle.report.specs.ReportOf.{numberOf, reportOf}
 
 pub record Report-cases : Type 0 where
   -- converged, one relation with error 0, three in all, one body with no slide and three turns
@@ -32,5 +35,7 @@ pub record Report-cases : Type 0 where
   -- an infinity's bits, and those that stand for a NaN
   pub not-finite : bitsText (inf false) ++ bitsText nan
       ≡ 55 ∷ 70 ∷ 70 ∷ 48 ∷ 48 ∷ 48 ∷ 48 ∷ 48 ∷ 48 ∷ 48 ∷ 48 ∷ 48 ∷ 48 ∷ 48 ∷ 48 ∷ 48 ∷ 55 ∷ 70 ∷ 70 ∷ 56 ∷ 48 ∷ 48 ∷ 48 ∷ 48 ∷ 48 ∷ 48 ∷ 48 ∷ 48 ∷ 48 ∷ 48 ∷ 48 ∷ 48 ∷ []
+  -- what is named is within the ranges: `report` is refused as a call is that chooses nothing, and never by 15
+  pub refused-alike : (s : List ℕ) → numberOf s ≡ orElse (solveFault s 65535 8192 768 768 128) (dofFault s 8192 1856)
   -- an empty input: "refused 1"
   pub nothing-read : reportOf [] ≡ 114 ∷ 101 ∷ 102 ∷ 117 ∷ 115 ∷ 101 ∷ 100 ∷ 32 ∷ 49 ∷ 10 ∷ []

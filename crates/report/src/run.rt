@@ -1,10 +1,11 @@
-// A sheet's report: `solve` with no drag, then `dof`, and the text of their answers or of the refusal. specs/ReportOf.antt has the definition.
+// A sheet's report: `solve` with no drag and 200 rounds a run, then `dof`, and the text of their answers or of the refusal. specs/ReportOf.antt has the definition.
 
 use crate::text::answer_text;
 use crate::text::refused_text;
 use records::record::u16_at;
 use sheet::freedoms::sheet_dof;
-use sheet::solving::sheet_solve;
+use sheet::solving::sheet_solve_with;
+use vectors::tol;
 ghost use mathlib.Core.Path.{_≡_};
 ghost use Prim.Native.Nat.{_≤_};
 ghost use lib.Dec.{eqb};
@@ -13,7 +14,34 @@ ghost use Rattle.format.specs.Format.{bodiesOf, relationsOf};
 ghost use Rattle.format.specs.Faults.{sheetFault};
 ghost use Rattle.writing.specs.Bytes.{Put};
 ghost use Rattle.report.specs.Report.{answerText};
-ghost use Rattle.report.specs.ReportOf.{reportOf};
+ghost use Rattle.sheet.specs.Solving.{SolveWithAnswer};
+ghost use Rattle.report.specs.ReportOf.{reportParameters, reportOf};
+
+// `solve` with no drag, by what `report` names.
+fn solve(
+    sheet: &[u8],
+    scratch: &mut [f64],
+    poses: &mut [f64],
+    frames: &mut [f64],
+    errors: &mut [f64],
+    converged: &mut u8,
+) -> u32
+    ensures { λ r. ⌜ SolveWithAnswer (now (sheet .entry)) reportParameters 65535 r (now (scratch .entry)) (now (scratch .exit)) (now (poses .entry)) (now (poses .exit)) (now (frames .entry)) (now (frames .exit)) (now (errors .entry)) (now (errors .exit)) (now (converged .entry)) (now (converged .exit)) ⌝ }
+{
+    sheet_solve_with(
+        sheet,
+        0xFFFF,
+        tol::ASSEMBLY,
+        200,
+        800,
+        1e4,
+        scratch,
+        poses,
+        frames,
+        errors,
+        converged,
+    )
+}
 
 // The text of two answers, with as many relations and bodies as the sheet has.
 fn answer(
@@ -55,15 +83,7 @@ pub fn report(
     ensures { λ r. ⌜ Put (now (out .entry)) (now (out .exit)) 0 r (reportOf (now (sheet .entry))) ⌝ }
 {
     let mut converged = 0u8;
-    let first = sheet_solve(
-        sheet,
-        0xFFFF,
-        scratch,
-        poses,
-        frames,
-        errors,
-        &mut converged,
-    );
+    let first = solve(sheet, scratch, poses, frames, errors, &mut converged);
     if first != 0 {
         return refused_text(out, first);
     }

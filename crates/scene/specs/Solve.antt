@@ -128,9 +128,9 @@ pub record Parameters : Type 0 where
   pub rowLimit : ℕ
   pub dragWeight : Float
 
--- a call that chooses nothing: 1e-9, 200, 800, 10000
+-- a call that chooses nothing: 1e-9, 60, 800, 10000 (document 02, 8/14)
 abbrev pub plain : Parameters
-plain = record { tolerance = ASSEMBLY; rounds = 200; rowLimit = 800; dragWeight = ofBits binary64 0x40C3_8800_0000_0000 }
+plain = record { tolerance = ASSEMBLY; rounds = 60; rowLimit = 800; dragWeight = ofBits binary64 0x40C3_8800_0000_0000 }
 
 -- from lo to hi, both included; a NaN is not
 abbrev pub fromTo : Float → Float → Float → Bool

@@ -1,4 +1,4 @@
-// What a call of `solve` chooses: document 02, 5/14. `specs/Solve.antt` has the definitions.
+// What a call of `solve` chooses: document 02, 5/14 and 8/14. `specs/Solve.antt` has the definitions.
 
 ghost use mathlib.Core.Path.{_≡_};
 ghost use Rattle.scene.specs.Solve as solve;
@@ -19,7 +19,7 @@ pub fn plain() -> Parameters
 {
     Parameters {
         tolerance: tol::ASSEMBLY,
-        rounds: 200,
+        rounds: 60,
         limit: 800,
         weight: 1e4,
     }

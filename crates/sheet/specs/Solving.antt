@@ -1,5 +1,5 @@
 -- What `solve` answers on a sheet that no test refuses, what then stands in each lent place, and how closely. Document 01, "What a call says", "The words of demand 3";
--- document 02, 5/14: the same with what the call chooses. Definitions only.
+-- document 02, 5/14: the same with what the call chooses, and 8/14: a call that chooses nothing. Definitions only.
 use Prim.Native.Nat.{ℕ, _*_, _≤_}
 use mathlib.Core.Path.{_≡_}
 use mathlib.Core.Bool.{cond}
@@ -46,10 +46,6 @@ pub record SolveWithAnswer (s : List ℕ) (p : Parameters) (drag r : ℕ) (scrat
   -- demand 1: at most two runs of the chosen rounds
   pub rounds : roundsOf (sceneAt s) p (dragOf drag) ≤ 2 * p .rounds
 
--- ---- a call that chooses nothing
-
-abbrev pub solutionOf : List ℕ → ℕ → Solution
-solutionOf s drag = solutionWith s plain drag
-
+-- a call that chooses nothing: within 1e-9, at most two runs of 60 rounds
 abbrev pub SolveAnswer : List ℕ → ℕ → ℕ → List Float → List Float → List Float → List Float → List Float → List Float → List Float → List Float → ℕ → ℕ → Type 0
 SolveAnswer s drag r scratch scratch' poses poses' frames frames' errors errors' flag flag' = SolveWithAnswer s plain drag r scratch scratch' poses poses' frames frames' errors errors' flag flag'

@@ -92,7 +92,7 @@ fn relation_right(fd: i32, s: &[u8], c: Call) -> bool {
 
 // Whether a call gives the list's answer.
 fn right(fd: i32, s: &[u8], scratch: &mut [f64], c: Call) -> bool {
-    if c.which == 3 || c.which == 5 {
+    if c.which == 3 || c.which == 5 || c.which == 6 {
         return solve_right(fd, s, scratch, c);
     }
     if c.which == 4 {
@@ -110,14 +110,14 @@ fn whole(fd: i32) -> u32 {
     n as u32
 }
 
-// What a call chooses: four words for a call that chooses, none for any other.
+// What a call chooses: call 5 has four words for it. Call 3 names 200 rounds, and else what a call takes that chooses nothing; the list does not spell it out.
 fn next_chosen(fd: i32, which: u64) -> Chosen {
     if which != 5 {
         return Chosen {
-            tolerance: 0.0,
-            rounds: 0,
-            limit: 0,
-            weight: 0.0,
+            tolerance: 1e-9,
+            rounds: 200,
+            limit: 800,
+            weight: 1e4,
         };
     }
     let tolerance = list::double(fd);
@@ -280,6 +280,7 @@ fn replay_all(scratch: &mut [f64; 300_000]) {
     replay(b"sheets_limits.bin", List::Sheets, scratch);
     replay(b"sheets_geared.bin", List::Sheets, scratch);
     replay(b"sheets_parameters.bin", List::Sheets, scratch);
+    replay(b"sheets_bare.bin", List::Sheets, scratch);
 }
 
 fn main() {

@@ -10,7 +10,7 @@ use sheet::freedoms::sheet_dof;
 use sheet::solving::sheet_solve;
 use sheet::solving::sheet_solve_with;
 
-// What a call of `solve` chooses, as the list gives it; all 0 for a call that chooses nothing.
+// What a call of `solve` chooses; call 6 chooses nothing, and it is not looked at.
 pub struct Chosen {
     pub tolerance: f64,
     pub rounds: u32,
@@ -68,7 +68,7 @@ fn outputs_right(
     p & f & e & (converged as u64 == flag)
 }
 
-// `solve` by what the call chooses, if it is one that chooses.
+// `solve` by what the call chooses; call 6 chooses nothing.
 fn solve_number(
     s: &[u8],
     c: Call,
@@ -79,7 +79,7 @@ fn solve_number(
     errors: &mut [f64],
     converged: &mut u8,
 ) -> u32 {
-    if c.which == 3 {
+    if c.which == 6 {
         return sheet_solve(s, drag, scratch, poses, frames, errors, converged);
     }
     let q = c.chosen;

@@ -1,4 +1,4 @@
--- `report::run::report` puts `reportOf` of the sheet: with the lengths lent, the numbers of `sheet_solve` and `sheet_dof` are those of the definition
+-- `report::run::report` puts `reportOf` of the sheet: with the lengths lent, the numbers of `solve` and `sheet_dof` are those of the definition
 -- (`first-number`, `second-number`). The first that is not 0 is told as a refusal; where both are 0, the answers are printed. By the laws of RunLaws.
 -- Assumes nothing.
 use mathlib.Core.Path.{_≡_, _∙_}
@@ -6,8 +6,9 @@ use Prim.Native.Nat.{_≤_}
 use native.Mathlib.Omega.{arith}
 use borrow.Author.Needs.{needs}
 use lib.ListN.{length}
-use Rattle.refusals.specs.Refusals.{solveFault, dofFault}
+use Rattle.refusals.specs.Refusals.{solveWithFault, dofFault}
 use Rattle.writing.proofs.PutLaws.{put-as}
+use Rattle.report.specs.ReportOf.{reportParameters}
 use Rattle.report.proofs.RunLaws.{answered, dof-number, dof-small, first-refused, free-small, second-refused, sheet-passes, solve-number, solve-small}
 use Rattle.report.proofs.run.report.Statement.{statement}
 use Rattle.report.proofs.run.report.Tie as tie
@@ -34,10 +35,10 @@ out-lent c = c .pre .1 .1 .1 .1 .1
 
 -- ---- the two calls: back to the start, from a branch to the call whose number it tests, and from the second call to the branch that leads there
 
-abbrev entry : tie.After-sheet-solve → tie.Start
+abbrev entry : tie.After-solve → tie.Start
 entry c = c .before .before .before .before .before .before .before .before .before .before .before .before .before
 
-abbrev solved : tie.After-slice-known10 → tie.After-sheet-solve
+abbrev solved : tie.After-slice-known10 → tie.After-solve
 solved c = c .before .before .before .before .before .before .before .before
 
 abbrev accepted : tie.After-sheet-dof → tie.Else1
@@ -46,27 +47,27 @@ accepted c = c .before .before .before .before
 abbrev counted : tie.After-slice-known13 → tie.After-sheet-dof
 counted c = c .before .before .before .before
 
-first-number : (c : tie.After-sheet-solve) → c .sheet-solve .result ≡ solveFault (entry c .args .sheet .now) 65535 8192 768 768 128
+first-number : (c : tie.After-solve) → c .solve .result ≡ solveWithFault (entry c .args .sheet .now) reportParameters 65535 8192 768 768 128
 first-number c =
     let o = entry c in
-    solve-number _ _ _ _ _ _ (scratch-lent o) (poses-lent o) (frames-lent o) (errors-lent o) (c .sheet-solve .ensures .number)
+    solve-number _ _ _ _ _ _ (scratch-lent o) (poses-lent o) (frames-lent o) (errors-lent o) (c .solve .ensures .number)
 
 second-number : (c : tie.After-sheet-dof) → c .sheet-dof .result ≡ dofFault (entry (solved (accepted c .before)) .args .sheet .now) 8192 1856
 second-number c =
     let solve = solved (accepted c .before) in
     let o = entry solve in
-    dof-number _ _ _ _ (solve .sheet-solve .ensures .scratch-size ∙ scratch-lent o) (freedoms-lent o) (c .sheet-dof .ensures .number)
+    dof-number _ _ _ _ (solve .solve .ensures .scratch-size ∙ scratch-lent o) (freedoms-lent o) (c .sheet-dof .ensures .number)
 
 -- ---- the needs
 
-sheet-solve-requires : tie.Need-sheet-solve-requires
-sheet-solve-requires c κs = search needs
+solve-requires : tie.Need-solve-requires
+solve-requires c κs = search needs
 
 refused-text-requires : tie.Need-refused-text-requires
 refused-text-requires c κs =
     let refused = c .before in
     let solve = solved (refused .before) in
-    (solve-small _ _ _ _ _ _ _ (solve .sheet-solve .ensures .number), out-lent (entry solve))
+    (solve-small _ _ _ _ _ _ _ (solve .solve .ensures .number), out-lent (entry solve))
 
 same-length : tie.Need-same-length
 same-length c = search needs
@@ -166,7 +167,7 @@ returns-3 c =
     let dof = counted (second .before) in
     let first = accepted dof in
     let solve = solved (first .before) in
-    let x = solve .sheet-solve .ensures in
+    let x = solve .solve .ensures in
     let y = dof .sheet-dof .ensures in
     put-as _ _ _ _ _ _
     (answered _ _ _ _ _ _ _ _ _ _ _ _ x (first .if1 .left) _ _ _ _ _ _ _ y (second .if2 .left) (first-number solve) (second-number dof)
@@ -179,7 +180,7 @@ pub report-spec : {M : Type 1} → statement M
 report-spec =
     tie.close
     (tie.spec
-    sheet-solve-requires
+    solve-requires
     refused-text-requires
     same-length
     same-length-2
