@@ -65,7 +65,7 @@ uint32_t sheet_snap(const uint8_t *sheet, size_t sheet_len, uint16_t relation, d
  *   converged  one byte: 1 if every error is at most 1e-9, else 0
  *
  * Another drag is refused by 8, short poses, frames or errors by 10, and short scratch by 9. What stands in poses, frames and
- * errors past these lengths is kept. The work ends after at most two runs of 60 rounds; sheet_solve_with takes another number. */
+ * errors past these lengths is kept. The work ends after at most two runs of 60 rounds; sheet_solve_with is told how many. */
 uint32_t sheet_solve(const uint8_t *sheet, size_t sheet_len, uint16_t drag, double *scratch, size_t scratch_len, double *poses,
                      size_t poses_len, double *frames, size_t frames_len, double *errors, size_t errors_len, uint8_t *converged);
 

@@ -6,21 +6,21 @@ use mathlib.Core.List.{List}
 use lib.Ieee.{ofBits, toBits, eq, lt, le, size}
 use Rattle.scene.specs.Solve.{inRange}
 use Rattle.format.specs.Faults.{orElse, headerFault, sheetFault}
-use Rattle.refusals.specs.Refusals.{solveWithFault, solveFault, dofFault}
+use Rattle.refusals.specs.Refusals.{solveWithFault, solveFault}
 use Rattle.refusals.proofs.LentLaws.{range-fault, plain-fault}
 use Rattle.writing.specs.Bytes.{joined}
 use Rattle.report.specs.Report.{digits, placesIn, countDigit}
-use Rattle.report.specs.ReportOf.{reportParameters, numberOf, reportOf}
+use Rattle.report.specs.ReportOf.{reportParameters, dofNumber, numberOf, reportOf}
 use Rattle.report.specs.ReportCases.{Report-cases}
 
 report-range : inRange reportParameters ≡ true
 unfolding inRange le lt eq ofBits
 report-range = refl
 
-refused-as-bare : (s : List ℕ) → numberOf s ≡ orElse (solveFault s 65535 8192 768 768 128) (dofFault s 8192 1856)
+refused-as-bare : (s : List ℕ) → numberOf s ≡ orElse (solveFault s 65535 8192 768 768 128) (dofNumber s)
 unfolding numberOf
 refused-as-bare s =
-    ap (λ (n : ℕ). orElse n (dofFault s 8192 1856))
+    ap (λ (n : ℕ). orElse n (dofNumber s))
     (range-fault s reportParameters 65535 8192 768 768 128 report-range ∙ sym (plain-fault s 65535 8192 768 768 128))
 
 pub report-cases : Report-cases

@@ -23,7 +23,7 @@ use Rattle.refusals.proofs.FigureLaws.{counted}
 use Rattle.writing.specs.Bytes.{joined, Put}
 use Rattle.writing.proofs.PutLaws.{put-as}
 use Rattle.report.specs.Report.{relationLine, bodyLine, relationLines, bodyLines, answerText, refusedText}
-use Rattle.report.specs.ReportOf.{reportParameters, reportSolution, numberOf, answerOf, reportOf}
+use Rattle.report.specs.ReportOf.{reportParameters, reportSolution, solveNumber, dofNumber, numberOf, answerOf, reportOf}
 
 -- a text with equal counts
 pub put-counted : (s t : List ℕ) (o r : ℕ) (b : Bool) (errors : List Float) (k k' free : ℕ) (freedoms : List Float) (m m' : ℕ) → k ≡ k' → m ≡ m'
@@ -81,25 +81,25 @@ refused-number s n e ne =
     sym (ap (λ (t : Bool). cond t (answerOf s) (refusedText n)) (ne-eqb n 0 ne)) ∙ (λ i. cond (eqb (e i) 0) (answerOf s) (refusedText (e i)))
 
 -- the numbers of the calls are those for the lengths that `report` lends
-pub solve-number : (s : List ℕ) (r a b c d : ℕ) → a ≡ 8192 → b ≡ 768 → c ≡ 768 → d ≡ 128 → r ≡ solveWithFault s reportParameters 65535 a b c d → r ≡ solveWithFault s reportParameters 65535 8192 768 768 128
+pub solve-number : (s : List ℕ) (r a b c d : ℕ) → a ≡ 8192 → b ≡ 768 → c ≡ 768 → d ≡ 128 → r ≡ solveWithFault s reportParameters 65535 a b c d → r ≡ solveNumber s
 solve-number s r a b c d p q u v e = e ∙ (λ i. solveWithFault s reportParameters 65535 (p i) (q i) (u i) (v i))
 
-pub dof-number : (s : List ℕ) (r a b : ℕ) → a ≡ 8192 → b ≡ 1856 → r ≡ dofFault s a b → r ≡ dofFault s 8192 1856
+pub dof-number : (s : List ℕ) (r a b : ℕ) → a ≡ 8192 → b ≡ 1856 → r ≡ dofFault s a b → r ≡ dofNumber s
 dof-number s r a b p q e = e ∙ (λ i. dofFault s (p i) (q i))
 
-pub first-refused : (s : List ℕ) (r : ℕ) → r ≡ solveWithFault s reportParameters 65535 8192 768 768 128 → (r ≡ 0 → ⊥) → refusedText r ≡ reportOf s
+pub first-refused : (s : List ℕ) (r : ℕ) → r ≡ solveNumber s → (r ≡ 0 → ⊥) → refusedText r ≡ reportOf s
 unfolding numberOf
-first-refused s r e ne = refused-number s r (first _ (solveWithFault s reportParameters 65535 8192 768 768 128) (dofFault s 8192 1856) r refl e ne) ne
+first-refused s r e ne = refused-number s r (first _ (solveNumber s) (dofNumber s) r refl e ne) ne
 
-pub second-refused : (s : List ℕ) (q r : ℕ) → q ≡ solveWithFault s reportParameters 65535 8192 768 768 128 → q ≡ 0 → r ≡ dofFault s 8192 1856 → (r ≡ 0 → ⊥) → refusedText r ≡ reportOf s
+pub second-refused : (s : List ℕ) (q r : ℕ) → q ≡ solveNumber s → q ≡ 0 → r ≡ dofNumber s → (r ≡ 0 → ⊥) → refusedText r ≡ reportOf s
 unfolding numberOf
-second-refused s q r h z e ne = refused-number s r (later _ (solveWithFault s reportParameters 65535 8192 768 768 128) (dofFault s 8192 1856) q r refl h z e) ne
+second-refused s q r h z e ne = refused-number s r (later _ (solveNumber s) (dofNumber s) q r refl h z e) ne
 
 -- ---- an answer
 
-number-none : (s : List ℕ) (q r : ℕ) → q ≡ solveWithFault s reportParameters 65535 8192 768 768 128 → q ≡ 0 → r ≡ dofFault s 8192 1856 → r ≡ 0 → numberOf s ≡ 0
+number-none : (s : List ℕ) (q r : ℕ) → q ≡ solveNumber s → q ≡ 0 → r ≡ dofNumber s → r ≡ 0 → numberOf s ≡ 0
 unfolding numberOf
-number-none s q r h z e y = sym (later _ (solveWithFault s reportParameters 65535 8192 768 768 128) (dofFault s 8192 1856) q r refl h z e) ∙ y
+number-none s q r h z e y = sym (later _ (solveNumber s) (dofNumber s) q r refl h z e) ∙ y
 
 answer-printed : (s : List ℕ) → numberOf s ≡ 0 → answerOf s ≡ reportOf s
 unfolding reportOf
@@ -142,7 +142,7 @@ module _ (s : List ℕ) (q : ℕ) (scratch scratch' poses poses' frames frames' 
 
   -- both answers, as `report` prints them
   pub answered : (r : ℕ) (again again' freedoms freedoms' : List Float) (free free' : ℕ) → DofAnswer s r again again' freedoms freedoms' free free' → r ≡ 0
-      → q ≡ solveWithFault s reportParameters 65535 8192 768 768 128 → r ≡ dofFault s 8192 1856 → length errors ≡ 128 → length errors' ≡ length errors → length freedoms' ≡ length freedoms
+      → q ≡ solveNumber s → r ≡ dofNumber s → length errors ≡ 128 → length errors' ≡ length errors → length freedoms' ≡ length freedoms
       → answerText (eqb flag' 1) errors' (relationsOf s) free' freedoms' (bodiesOf s) ≡ reportOf s
   answered r again again' freedoms freedoms' free free' y w h g l a b =
       let n = counted s (sheet-passes s r again again' freedoms freedoms' free free' y w) in

@@ -8,9 +8,9 @@ use lib.ListN.{replicate}
 use lib.Ieee.{nan, inf, binary64, ofBits}
 use Rattle.numbers.specs.Double.{zero64}
 use Rattle.format.specs.Faults.{orElse}
-use Rattle.refusals.specs.Refusals.{solveFault, dofFault}
+use Rattle.refusals.specs.Refusals.{solveFault}
 use Rattle.report.specs.Report.{answerText, refusedText, relationLine, bodyLine, decimal, bitsText}
-use Rattle.report.specs.ReportOf.{numberOf, reportOf}
+use Rattle.report.specs.ReportOf.{dofNumber, numberOf, reportOf}
 
 pub record Report-cases : Type 0 where
   -- converged, one relation with error 0, three in all, one body with no slide and three turns
@@ -36,6 +36,6 @@ pub record Report-cases : Type 0 where
   pub not-finite : bitsText (inf false) ++ bitsText nan
       ≡ 55 ∷ 70 ∷ 70 ∷ 48 ∷ 48 ∷ 48 ∷ 48 ∷ 48 ∷ 48 ∷ 48 ∷ 48 ∷ 48 ∷ 48 ∷ 48 ∷ 48 ∷ 48 ∷ 55 ∷ 70 ∷ 70 ∷ 56 ∷ 48 ∷ 48 ∷ 48 ∷ 48 ∷ 48 ∷ 48 ∷ 48 ∷ 48 ∷ 48 ∷ 48 ∷ 48 ∷ 48 ∷ []
   -- what is named is within the ranges: `report` is refused as a call is that chooses nothing, and never by 15
-  pub refused-alike : (s : List ℕ) → numberOf s ≡ orElse (solveFault s 65535 8192 768 768 128) (dofFault s 8192 1856)
+  pub refused-alike : (s : List ℕ) → numberOf s ≡ orElse (solveFault s 65535 8192 768 768 128) (dofNumber s)
   -- an empty input: "refused 1"
   pub nothing-read : reportOf [] ≡ 114 ∷ 101 ∷ 102 ∷ 117 ∷ 115 ∷ 101 ∷ 100 ∷ 32 ∷ 49 ∷ 10 ∷ []

@@ -23,9 +23,16 @@ reportParameters = record { tolerance = ASSEMBLY; rounds = 200; rowLimit = 800; 
 abbrev pub reportSolution : List ℕ → Solution
 reportSolution s = solutionWith s reportParameters 65535
 
+-- the numbers of the two calls, with what `report` lends them
+abbrev pub solveNumber : List ℕ → ℕ
+solveNumber s = solveWithFault s reportParameters 65535 8192 768 768 128
+
+abbrev pub dofNumber : List ℕ → ℕ
+dofNumber s = dofFault s 8192 1856
+
 -- the number of the call that refuses, `solve`'s first, or 0
 unfoldable pub numberOf : List ℕ → ℕ
-numberOf s = orElse (solveWithFault s reportParameters 65535 8192 768 768 128) (dofFault s 8192 1856)
+numberOf s = orElse (solveNumber s) (dofNumber s)
 
 -- where neither does
 abbrev pub answerOf : List ℕ → List ℕ

@@ -62,7 +62,7 @@ fn solve_by(
     number
 }
 
-// A call that chooses nothing: all are within 1e-9, after at most two runs of 60 rounds.
+// A call that chooses nothing: the tolerance is 1e-9, and there are at most two runs of 60 rounds.
 #[no_mangle]
 pub extern "C" fn sheet_solve(
     sheet: &[u8],

@@ -6,9 +6,8 @@ use Prim.Native.Nat.{_≤_}
 use native.Mathlib.Omega.{arith}
 use borrow.Author.Needs.{needs}
 use lib.ListN.{length}
-use Rattle.refusals.specs.Refusals.{solveWithFault, dofFault}
 use Rattle.writing.proofs.PutLaws.{put-as}
-use Rattle.report.specs.ReportOf.{reportParameters}
+use Rattle.report.specs.ReportOf.{solveNumber, dofNumber}
 use Rattle.report.proofs.RunLaws.{answered, dof-number, dof-small, first-refused, free-small, second-refused, sheet-passes, solve-number, solve-small}
 use Rattle.report.proofs.run.report.Statement.{statement}
 use Rattle.report.proofs.run.report.Tie as tie
@@ -47,12 +46,12 @@ accepted c = c .before .before .before .before
 abbrev counted : tie.After-slice-known13 → tie.After-sheet-dof
 counted c = c .before .before .before .before
 
-first-number : (c : tie.After-solve) → c .solve .result ≡ solveWithFault (entry c .args .sheet .now) reportParameters 65535 8192 768 768 128
+first-number : (c : tie.After-solve) → c .solve .result ≡ solveNumber (entry c .args .sheet .now)
 first-number c =
     let o = entry c in
     solve-number _ _ _ _ _ _ (scratch-lent o) (poses-lent o) (frames-lent o) (errors-lent o) (c .solve .ensures .number)
 
-second-number : (c : tie.After-sheet-dof) → c .sheet-dof .result ≡ dofFault (entry (solved (accepted c .before)) .args .sheet .now) 8192 1856
+second-number : (c : tie.After-sheet-dof) → c .sheet-dof .result ≡ dofNumber (entry (solved (accepted c .before)) .args .sheet .now)
 second-number c =
     let solve = solved (accepted c .before) in
     let o = entry solve in
