@@ -1094,7 +1094,7 @@ class Asked:
         self.numbers[number] += 1
         self.both.update(pair for pair in zip(self.order, self.order[1:]) if faults >= set(pair))
 
-    def tell(self, what, tests=(), kinds=None, a="answer", more=""):
+    def tell(self, what, tests=(), kinds=None, noun="answer", more=""):
         """Whether all was met that the list must have, the sheet's tests among it that are named, and how much it was."""
         kinds = kinds or list(self.kinds)
         if not self.compared.all(self.laws) or not all(self.numbers[n] for n in [0, *tests, *self.order]):
@@ -1104,10 +1104,10 @@ class Asked:
                 problem(f"{self.name}: no call fails by {pair[0]} and by {pair[1]}")
         for kind in kinds:
             if not self.kinds[kind]:
-                problem(f"{self.name}: no {a} {kind}")
+                problem(f"{self.name}: no {noun} {kind}")
         said = ", ".join(f"{n}: {self.numbers[n]}" for n in sorted(self.numbers))
         print(f"{what}: {sum(self.numbers.values())} of {self.count} calls as in {self.name}, by number {said}; {self.compared}{more}")
-        print(f"  {a}s by kind " + ", ".join(f"{kind}: {self.kinds[kind]}" for kind in kinds))
+        print(f"  {noun}s by kind " + ", ".join(f"{kind}: {self.kinds[kind]}" for kind in kinds))
         print("  relations by law " + ", ".join(f"{law}: {self.compared.laws[law]}" for law in self.laws))
 
 
@@ -1394,7 +1394,7 @@ def compare_portions(d):
                 held = Held(call.done, call.run, call.memory + held.memory[call.state:])
     if not (compared.rows and compared.unknowns):
         problem(f"{asked.name}: not all was compared")
-    asked.tell("portions", kinds=KINDS, a="call", more=f"; {compared.unknowns} unknowns that lead to the poses, {compared.rows} rows of one's own states")
+    asked.tell("portions", kinds=KINDS, noun="call", more=f"; {compared.unknowns} unknowns that lead to the poses, {compared.rows} rows of one's own states")
     print(f"  of 2 rows or more, with those of sheets_parameters.bin and sheets_bare.bin: accepted with just the page's scratch {d.met[AT_THE_FIGURE]}, refused with one double less {d.met[ONE_SHORT]}")
 
 

@@ -3,8 +3,8 @@
 //! be worked by hand.
 
 use crate::answer::{Answer, Call, Set, words};
-use crate::bare::slow;
 use crate::generate;
+use crate::jams::slow;
 use crate::plain::body_of;
 use crate::running::{FINISHED, FIRST, Held, Portion, RETRY, Told};
 use crate::sheet::*;

@@ -2,10 +2,10 @@
 //! What the cases must meet is entered at 0 by the functions that begin with `want`, and counted.
 
 use crate::answer::{Answer, Call, FIVE, NAMES, Set, bits, hex, words};
-use crate::bare::slow_with_gear;
 use crate::compare::{Library, Tally, kept};
 use crate::cover::{Cover, PRIMS};
 use crate::edges::{ROW_COUNTS, rounds};
+use crate::jams::slow_with_gear;
 use crate::rng::Rng;
 use crate::sheet::*;
 use crate::trains::{self, ORDER, pose_of, worked};

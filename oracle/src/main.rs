@@ -14,6 +14,7 @@ mod edges;
 mod examples;
 mod gears;
 mod generate;
+mod jams;
 mod lists;
 mod opening;
 mod parameters;

@@ -13,7 +13,8 @@ use crate::sheet::*;
 use crate::{trains, whole};
 use tenon::math::M3;
 
-fn body() -> Body {
+/// A free body in the middle, 2 mm large.
+pub fn body() -> Body {
     Body { frame: [[0.0; 3], [1.0, 0.0, 0.0], [0.0, 1.0, 0.0], [0.0, 0.0, 1.0]], size: 2.0, ..Body::default() }
 }
 fn end(prim: u8, body: u16) -> End {
@@ -68,12 +69,15 @@ pub fn spoiled(base: &Sheet, number: u32) -> Vec<u8> {
     bytes
 }
 
-/// Adds a relation of the sheet once more, a little off: a jam.
-fn jammed(rng: &mut Rng, mut sheet: Sheet) -> Sheet {
+/// Adds a relation of the sheet once more, off by one of these: a jam. Where it may be aside, every third has the point of its end b off too.
+pub fn jammed(rng: &mut Rng, mut sheet: Sheet, offs: &[f64], aside: bool) -> Sheet {
     if !sheet.relations.is_empty() && sheet.relations.len() < MOST_RELATIONS {
         let mut relation = rng.pick(&sheet.relations);
-        let by = rng.pick(&[1e-3, 1e-4, 1e-6, 1e-8, 1e-10]);
+        let by = rng.pick(offs);
         (relation.offset, relation.angle) = (relation.offset + by, relation.angle + by);
+        if aside && rng.one_in(3) {
+            relation.ends[1].point[rng.below(3)] += by;
+        }
         sheet.relations.push(relation.cleared());
         generate::limited(&mut sheet);
     }
@@ -87,7 +91,7 @@ pub fn drawn(rng: &mut Rng, i: usize) -> Sheet {
         5 if rng.one_in(3) => generate::nearly_free(rng),
         _ => generate::sheet(rng, i - i / 3, if i % 20 == 0 { 4 } else { 2 }),
     };
-    if i % 5 == 3 { jammed(rng, sheet) } else { sheet }
+    if i % 5 == 3 { jammed(rng, sheet, &[1e-3, 1e-4, 1e-6, 1e-8, 1e-10], false) } else { sheet }
 }
 
 impl Trials<'_> {

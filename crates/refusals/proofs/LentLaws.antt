@@ -3,6 +3,7 @@ use mathlib.Core.Path.{_≡_, refl, sym, _∙_}
 use mathlib.Core.Bool.{Bool, true, false}
 use mathlib.Core.List.{List}
 use Prim.Native.Nat.{ℕ, zero, suc, _*_, _<_, _≤_}
+use native.Mathlib.Omega.{arith}
 use lib.Dec.{leb}
 use lib.Ieee.{lt, le, eq, ofBits}
 use borrow.Author.Tests.{lt-ltb, le-ltb, le-leb, lt-leb, eq-eqb, ne-eqb}
@@ -68,14 +69,14 @@ pub range-fault : (s : List ℕ) (p : Parameters) (drag scratch poses frames err
 unfolding solveWithFault lentFault solveLong
 range-fault s p drag scratch poses frames errors e = rw e
 
-plain-range : inRange plain ≡ true
+-- what a call takes that chooses nothing is in range, and so it is with any other rounds from 1 to 1000
+pub rounds-range : (k : ℕ) → 1 ≤ k → k ≤ 1000 → inRange (record { tolerance = plain .tolerance; rounds = k; rowLimit = plain .rowLimit; dragWeight = plain .dragWeight }) ≡ true
 unfolding inRange le lt eq ofBits
-plain-range = refl
+rounds-range k a b = rw (le-leb 1 k a, le-leb k 1000 b)
 
--- so is a call that chooses nothing
 pub plain-fault : (s : List ℕ) (drag scratch poses frames errors : ℕ)
     → solveFault s drag scratch poses frames errors ≡ orElse (sheetFault s) (orElse (dragFault s drag) (solveLentFault s scratch poses frames errors))
-plain-fault s drag scratch poses frames errors = range-fault s plain drag scratch poses frames errors plain-range
+plain-fault s drag scratch poses frames errors = range-fault s plain drag scratch poses frames errors (rounds-range 60 (omega arith) (omega arith))
 
 pub dof-first : (s : List ℕ) (scratch freedoms f : ℕ) → f ≡ sheetFault s → (f ≡ 0 → ⊥) → f ≡ dofFault s scratch freedoms
 unfolding dofFault
