@@ -10,3 +10,4 @@ pub mod BoundLaws
 pub mod Loops
 pub mod HornerNear
 pub mod SumNear
+pub mod ZeroLaws

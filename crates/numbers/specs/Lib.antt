@@ -10,3 +10,4 @@ pub mod Parts
 pub mod Close
 pub mod Near
 pub mod Bound
+pub mod Zeros
