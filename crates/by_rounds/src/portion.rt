@@ -9,6 +9,7 @@ ghost use Rattle.relations.specs.Model.{bodyNumber};
 ghost use Rattle.scene.specs.Scene.{Laid, sceneOf, parametersOf};
 ghost use Rattle.scene.specs.Solve as definitions;
 ghost use Rattle.rounds.specs.Parts.{Arranged};
+ghost use Rattle.least_squares.specs.Lm as lm;
 ghost use Rattle.rounds.specs.Rounds as rounds_spec;
 ghost use Rattle.portions.specs.Portions as portions;
 ghost use Rattle.portions.specs.Laws as laws;
@@ -50,6 +51,7 @@ fn one_more(
     requires { ⌜ Laid (now sheet) scene ⌝ }
     requires { ⌜ Arranged scene p (length (now s)) ⌝ }
     requires { ⌜ (scene .rows ≤ 800) × (scene .n ≤ 384) × (g .done < 1000) ⌝ }
+    requires { ⌜ lm.allFinite (rounds_spec.weightsIn scene p (now s)) ≡ true ⌝ }
     ensures { λ r. ⌜ spec.Went scene p (now (s .entry)) (now (s .exit)) r (portions.oneMore (sceneOf (now (sheet .entry)) scene) (parametersOf q) (rounds_spec.weightsIn scene p (now (s .entry))) (spec.runningIn scene p (now (s .entry)) g)) ⌝ }
 {
     let cost = squares(s, p.rows, scene.rows);
@@ -79,6 +81,7 @@ fn go(
     requires { ⌜ scene .n ≤ 384 ⌝ }
     requires { ⌜ definitions.inRange (parametersOf q) ≡ true ⌝ }
     requires { ⌜ laws.Settled (sceneOf (now sheet) scene) (parametersOf q) (spec.runningIn scene p (now s) g) ⌝ }
+    requires { ⌜ lm.allFinite (rounds_spec.weightsIn scene p (now s)) ≡ true ⌝ }
     ensures { λ r. ⌜ spec.Went scene p (now (s .entry)) (now (s .exit)) r (portions.go (sceneOf (now (sheet .entry)) scene) (parametersOf q) (rounds_spec.weightsIn scene p (now (s .entry))) portion (spec.runningIn scene p (now (s .entry)) g)) ⌝ }
 {
     let mut e = g;

@@ -5,3 +5,5 @@ pub mod LmLaws
 pub mod SpreadLaws
 pub mod SumLaws
 pub mod DenseLaws
+pub mod ColumnLaws
+pub mod FiniteLaws

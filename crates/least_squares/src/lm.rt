@@ -7,6 +7,7 @@ ghost use Rattle.numbers.specs.MaxAbs as largest;
 ghost use Rattle.least_squares.specs.Memory.{part};
 ghost use Rattle.least_squares.specs.Lm as spec;
 ghost use Rattle.least_squares.specs.Triangle.{triangle, spread};
+ghost use Rattle.least_squares.specs.Columns.{Columns, FiniteAt};
 ghost use Rattle.least_squares.specs.LmPosts.{MatrixRow, Matrix, Copied, Damped, Stepped};
 use crate::triangle::places;
 
@@ -43,31 +44,54 @@ pub fn norm2(v: &[f64]) -> f64
     t
 }
 
-// The n products of the doubles from i on, those from k on and those from w on, summed from +0.
-fn gram(s: &[f64], i: usize, k: usize, w: usize, n: usize) -> f64
+// The columns in which the n doubles from i on are no zeros, in order, to the first places of the list; how many there are.
+fn columns(s: &[f64], i: usize, n: usize, list: &mut [usize; 384]) -> usize
     requires { ⌜ i + n ≤ length (now s) ⌝ }
-    requires { ⌜ k + n ≤ length (now s) ⌝ }
-    requires { ⌜ w + n ≤ length (now s) ⌝ }
-    ensures { λ r. ⌜ r ≡ spec.gramAt (now (s .entry)) i k w n ⌝ }
+    requires { ⌜ (n ≤ 384) × (length (now list) ≡ 384) ⌝ }
+    ensures { λ m. ⌜ Columns (now (s .entry)) i n (now (list .exit)) m × (length (now (list .exit)) ≡ 384) ⌝ }
+{
+    let mut m = 0;
+    for c in 0..n {
+        if s[i + c] == 0.0 {
+            continue;
+        }
+        list[m] = c;
+        m = m + 1;
+    }
+    m
+}
+
+// The n products of the doubles from k on, those from i on and those from w on, summed from +0: those only where the double from i on is no zero, in the m columns of the
+// list. The others are zeros, and a sum from +0 is the same without them.
+fn gram(s: &[f64], k: usize, i: usize, w: usize, n: usize, list: &[usize; 384], m: usize) -> f64
+    requires { ⌜ (k + n ≤ length (now s)) × (i + n ≤ length (now s)) ⌝ }
+    requires { ⌜ (w + n ≤ length (now s)) × (n ≤ 384) ⌝ }
+    requires { ⌜ Columns (now s) i n (now list) m ⌝ }
+    requires { ⌜ FiniteAt (now s) k n × FiniteAt (now s) w n ⌝ }
+    ensures { λ r. ⌜ r ≡ spec.gramAt (now (s .entry)) k i w n ⌝ }
 {
     let mut t = 0.0;
-    for c in 0..n {
-        t = t + s[i + c] * s[k + c] * s[w + c];
+    for j in 0..m {
+        let c = list[j];
+        t = t + s[k + c] * s[i + c] * s[w + c];
     }
     t
 }
 
-// Row i of J W⁻¹ Jᵀ up to the diagonal, at `at`: the slopes at 0, the weights at w. In each product the row with the smaller number comes first.
-fn matrix_row(s: &mut [f64], i: usize, at: usize, n: usize, w: usize)
-    requires { ⌜ (i < 800) × (n ≤ 384) ⌝ }
+// Row i of J W⁻¹ Jᵀ up to the diagonal, at `at`: the slopes at 0, the weights at w. In each product the row with the smaller number comes first. The list is scratch: what it
+// holds at entry has no say.
+fn matrix_row(s: &mut [f64], i: usize, at: usize, n: usize, w: usize, list: &mut [usize; 384])
+    requires { ⌜ (i < 800) × (n ≤ 384) × (length (now list) ≡ 384) ⌝ }
     requires { ⌜ i * n + n ≤ at ⌝ }
     requires { ⌜ at + (i + 1) ≤ w ⌝ }
     requires { ⌜ w + n ≤ length (now s) ⌝ }
-    ensures { λ _. ⌜ MatrixRow (now (s .entry)) (now (s .exit)) i at n w ⌝ }
+    requires { ⌜ FiniteAt (now s) 0 (i * n + n) × FiniteAt (now s) w n ⌝ }
+    ensures { λ _. ⌜ MatrixRow (now (s .entry)) (now (s .exit)) i at n w × (length (now (list .exit)) ≡ 384) ⌝ }
 {
     let row = i * n;
+    let m = columns(s, row, n, list);
     for k in 0..i + 1 {
-        s[at + k] = gram(s, k * n, row, w, n);
+        s[at + k] = gram(s, k * n, row, w, n, list, m);
     }
 }
 
@@ -75,12 +99,14 @@ fn matrix_row(s: &mut [f64], i: usize, at: usize, n: usize, w: usize)
 pub fn matrix(s: &mut [f64], n: usize, rows: usize)
     requires { ⌜ (rows ≤ 800) × (n ≤ 384) ⌝ }
     requires { ⌜ rows * n + triangle rows + n ≤ length (now s) ⌝ }
+    requires { ⌜ FiniteAt (now s) 0 (rows * n) × FiniteAt (now s) (rows * n + triangle rows) n ⌝ }
     ensures { λ _. ⌜ Matrix (now (s .entry)) (now (s .exit)) n rows (rows * n) (rows * n + triangle rows) ⌝ }
 {
     let a = rows * n;
     let w = a + places(rows);
+    let mut list = [0usize; 384];
     for i in 0..rows {
-        matrix_row(s, i, a + places(i), n, w);
+        matrix_row(s, i, a + places(i), n, w, &mut list);
     }
 }
 

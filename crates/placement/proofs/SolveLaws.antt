@@ -16,7 +16,8 @@ use Rattle.vectors.specs.Space.{Frame}
 use Rattle.vectors.specs.Math.{frameOf}
 use Rattle.relations.specs.Geometry.{Pose, frameOr}
 use Rattle.relations.specs.Model.{Body, Rel}
-use Rattle.least_squares.specs.Lm.{listOf, inverseWeight, Outcome, run}
+use Rattle.least_squares.specs.Lm.{listOf, inverseWeight, Outcome, run, allFinite}
+use Rattle.least_squares.proofs.FiniteLaws.{inverses-finite}
 use Rattle.least_squares.specs.LmPosts.{Copied}
 use Rattle.least_squares.specs.Memory.{part}
 use Rattle.records.specs.Record.{bodyAt, relAt}
@@ -156,12 +157,16 @@ pub record Again (sc : Scene) (c : SceneStruct) (p : PartsStruct) (q : Parameter
   pub first : firstIn c p t ≡ unknownsIn c p s
   pub size : length t ≡ length s
 
+-- the weights are as they were, also where the second run starts
+pub again-weights : (c : SceneStruct) (p : PartsStruct) (s t u : List Float) (l : List Float) → Arranged c p (length s) → Copied s t (p .x) (p .first) (c .n) → Put t u (p .x) (c .n) l
+    → weightsIn c p u ≡ weightsIn c p s
+again-weights c p s t u l a d y =
+    kept-part-above t u (p .x) (p .x + c .n) (p .weights) (c .n) (omega arith) (y .kept) ∙ kept-part-above s t (p .first) (p .first + c .n) (p .weights) (c .n) (omega arith) (d .kept)
+
 pub again-is : (sc : Scene) (c : SceneStruct) (p : PartsStruct) (q : Parameters) (s t u v : List Float) (e : RunEndStruct) → Arranged c p (length s) → Copied s t (p .x) (p .first) (c .n)
     → Put t u (p .x) (c .n) (listOf slightTurn (c .n)) → Ran c p u v (run (rowsOf sc) (weightsIn c p u) (q .tolerance) (q .rounds) (q .rowLimit) (unknownsIn c p u)) e → Again sc c p q s v (e .converged)
 again-is sc c p q s t u v e a d y r =
-    let w : weightsIn c p u ≡ weightsIn c p s
-    = kept-part-above t u (p .x) (p .x + c .n) (p .weights) (c .n) (omega arith) (y .kept)
-    ∙ kept-part-above s t (p .first) (p .first + c .n) (p .weights) (c .n) (omega arith) (d .kept) in
+    let w = again-weights c p s t u (listOf slightTurn (c .n)) a d y in
     let o : run (rowsOf sc) (weightsIn c p u) (q .tolerance) (q .rounds) (q .rowLimit) (unknownsIn c p u) ≡ retryOf sc c p q s = λ z. run (rowsOf sc) (w z) (q .tolerance) (q .rounds) (q .rowLimit) (y .holds z) in
     record {
       told = r .told ∙ ap (λ (o : Outcome). o .converged) o;
@@ -224,11 +229,20 @@ pub record Begun (sc : Scene) (c : SceneStruct) (p : PartsStruct) (q : Parameter
   pub weights-are : weightsIn c p t ≡ map inverseWeight (weights sc (q .dragWeight) drag)
   pub size : length t ≡ length s
 
+pub weights-finite : (sc : Scene) (q : Parameters) (drag : Option ℕ) → allFinite (map inverseWeight (weights sc (q .dragWeight) drag)) ≡ true
+weights-finite sc q drag = inverses-finite (weights sc (q .dragWeight) drag)
+
+-- the weights still stand where the first run starts
+pub begun-weights : (sc : Scene) (c : SceneStruct) (p : PartsStruct) (q : Parameters) (drag : Option ℕ) (s t u : List Float) → Arranged c p (length s)
+    → Put s t (p .weights) (c .n) (map inverseWeight (weights sc (q .dragWeight) drag)) → Put t u (p .x) (c .n) (listOf startAt (c .n))
+    → weightsIn c p u ≡ map inverseWeight (weights sc (q .dragWeight) drag)
+begun-weights sc c p q drag s t u a d y = kept-part-above t u (p .x) (p .x + c .n) (p .weights) (c .n) (omega arith) (y .kept) ∙ d .holds
+
 pub begun-is : (sc : Scene) (c : SceneStruct) (p : PartsStruct) (q : Parameters) (drag : Option ℕ) (s t u v : List Float) (e : RunEndStruct) → c .n ≡ unknowns sc → Arranged c p (length s)
     → Put s t (p .weights) (c .n) (map inverseWeight (weights sc (q .dragWeight) drag)) → Put t u (p .x) (c .n) (listOf startAt (c .n))
     → Ran c p u v (run (rowsOf sc) (weightsIn c p u) (q .tolerance) (q .rounds) (q .rowLimit) (unknownsIn c p u)) e → Begun sc c p q drag s v (e .converged)
 begun-is sc c p q drag s t u v e k a d y r =
-    let w : weightsIn c p u ≡ map inverseWeight (weights sc (q .dragWeight) drag) = kept-part-above t u (p .x) (p .x + c .n) (p .weights) (c .n) (omega arith) (y .kept) ∙ d .holds in
+    let w = begun-weights sc c p q drag s t u a d y in
     let x : unknownsIn c p u ≡ listOf startAt (unknowns sc) = y .holds ∙ ap (listOf startAt) k in
     let o : run (rowsOf sc) (weightsIn c p u) (q .tolerance) (q .rounds) (q .rowLimit) (unknownsIn c p u) ≡ firstOf sc q drag = λ z. run (rowsOf sc) (w z) (q .tolerance) (q .rounds) (q .rowLimit) (x z) in
     record {

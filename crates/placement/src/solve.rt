@@ -2,7 +2,7 @@
 // stands in the slices.
 
 ghost use mathlib.Core.Path.{_≡_};
-ghost use mathlib.Core.Bool.{false};
+ghost use mathlib.Core.Bool.{true, false};
 ghost use mathlib.Core.List.{List, _++_, map};
 ghost use Prim.Native.Nat.{ℕ, _+_, _*_, _≤_, _<_};
 ghost use lib.ListN.{length, drop};
@@ -102,6 +102,7 @@ fn retry(sheet: &[u8], scene: Scene, s: &mut [f64], p: SolveParts, q: Parameters
     requires { ⌜ Laid (now sheet) scene ⌝ }
     requires { ⌜ Arranged scene p (length (now s)) ⌝ }
     requires { ⌜ (scene .n ≤ 384) × (q .limit ≤ 800) ⌝ }
+    requires { ⌜ lm.allFinite (rounds_spec.weightsIn scene p (now s)) ≡ true ⌝ }
     ensures { λ ok. ⌜ ((first : lm.Outcome) → first .converged ≡ false → first .x ≡ rounds_spec.unknownsIn scene p (now (s .entry)) → spec.Ended scene p (now (s .entry)) (now (s .exit)) (definitions.better (sceneOf (now (sheet .entry)) scene) first (lm.run (definitions.rowsOf (sceneOf (now (sheet .entry)) scene)) (rounds_spec.weightsIn scene p (now (s .entry))) (q .tolerance) (q .rounds) (q .limit) (lm.listOf definitions.slightTurn (scene .n)))) ok) ⌝ }
 {
     copy(s, p.x, p.first, scene.n);

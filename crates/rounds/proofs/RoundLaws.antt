@@ -5,20 +5,22 @@ use mathlib.Core.List.{List, _++_}
 use mathlib.Core.Option.{Option, none, some}
 use Prim.Native.Nat.{ℕ, suc, _+_, _-_, _*_, _≤_, _<_}
 use native.Mathlib.Omega.{arith}
-use lib.ListN.{length, take, drop, length-drop, length-append}
+use lib.ListN.{length, getD, take, drop, length-drop, length-append}
 use lib.Seq.{take-length, length-take-le, take-append-add, take-add, drop-drop}
-use lib.Ieee.{Float, lt}
+use lib.Ieee.{Float, nan, lt}
 use Rattle.numbers.specs.Double.{isFinite}
 use borrow.Rule.Slice.PartMut.{putMid}
 use Rattle.least_squares.specs.Memory.{part, Kept}
-use Rattle.least_squares.specs.Lm.{State, Tried, norm2, jacobian, normal, stiffer, softer, judged, stepped, stepWith, trial, trials, oneRound}
+use Rattle.least_squares.specs.Columns.{FiniteAt}
+use Rattle.least_squares.specs.Lm.{State, Tried, norm2, jacobian, allFinite, normal, stiffer, softer, judged, stepped, stepWith, trial, trials, oneRound}
 use Rattle.least_squares.specs.Triangle.{triangle, spread}
 use Rattle.least_squares.specs.LmPosts.{Matrix}
 use Rattle.scene.specs.Solve.{Scene, rowsOf}
 use Rattle.scene.specs.Scene.{Slopes}
 use Rattle.slopes.specs.AnewSlopes.{Apart}
 use Rattle.scene.specs.declared.scene.Scene.{Scene as SceneStruct}
-use Rattle.least_squares.proofs.MemoryLaws.{part-length, part-part, taken-part, kept-part-below, kept-part-above, put-tail, kept-tail, tail-part}
+use Rattle.least_squares.proofs.FiniteLaws.{jacobian-finite, finite-part}
+use Rattle.least_squares.proofs.MemoryLaws.{part-length, part-at, part-part, taken-part, kept-part-below, kept-part-above, put-tail, kept-tail, tail-part}
 use Rattle.rounds.proofs.TrialLaws.{leaves-refl, leaves-trans}
 use Rattle.rounds.specs.Parts.{need, solveParts, Arranged}
 use Rattle.rounds.specs.Rounds.{slopesIn, matrixIn, weightsIn, unknownsIn, stateIn, triedIn, Leaves, TrialMade, TrialsMade, RoundMade}
@@ -223,6 +225,19 @@ matrix-room c p s at =
     let e : length (take (length s - p .slopes) (drop (p .slopes) s)) ≡ length s - p .slopes = length-take-le (length s - p .slopes) (drop (p .slopes) s) (simp length-drop (omega arith)) in
     omega arith
 
+-- the slopes and weights that the forming of the matrix is lent are finite
+pub matrix-finite : (c : SceneStruct) (p : PartsStruct) (s : List Float) → Arranged c p (length s) → allFinite (slopesIn c p s) ≡ true → allFinite (weightsIn c p s) ≡ true
+    → FiniteAt (take (length s - p .slopes) (drop (p .slopes) s)) 0 (c .rows * c .n) × FiniteAt (take (length s - p .slopes) (drop (p .slopes) s)) (c .rows * c .n + triangle (c .rows)) (c .n)
+matrix-finite c p s at a b = (
+  lent 0 (c .rows * c .n) (p .slopes) (omega arith) (omega arith) (finite-part s (p .slopes) (c .rows * c .n) (omega arith) a),
+  lent (c .rows * c .n + triangle (c .rows)) (c .n) (p .weights) (omega (arith, at .slopes, at .matrix)) (omega arith) (finite-part s (p .weights) (c .n) (omega arith) b),
+)
+  where
+    lent : (o k q : ℕ) → p .slopes + o ≡ q → q + k ≤ length s → FiniteAt s q k → FiniteAt (take (length s - p .slopes) (drop (p .slopes) s)) o k
+    lent o k q e l f i h =
+        let z : p .slopes + (o + i) ≡ q + i = omega arith in
+        subst (λ (x : Float). isFinite x ≡ true) (sym (part-at s (p .slopes) (length s - p .slopes) (o + i) nan (omega arith) ∙ ap (λ (w : ℕ). getD s w nan) z)) (f i h)
+
 -- ---- the slopes leave other parts alone
 
 -- a part behind the slopes and before a
@@ -238,6 +253,14 @@ slopes-part sc s t j n rows x a o k h l g =
 -- a part before the slopes
 slopes-below : (sc : Scene) (s t : List Float) (j n rows x a o k : ℕ) → o + k ≤ j → Slopes sc s t j n rows x a → part t o k ≡ part s o k
 slopes-below sc s t j n rows x a o k h g = taken-part s t j o k (g .size) (g .below) h
+
+-- after the filling of slopes the slopes are finite, and the weights still are
+pub sloped-finite : (sc : Scene) (c : SceneStruct) (p : PartsStruct) (s t : List Float) → Arranged c p (length s) → Slopes sc s t (p .slopes) (c .n) (c .rows) (p .x) (p .next)
+    → allFinite (weightsIn c p s) ≡ true → (allFinite (slopesIn c p t) ≡ true) × (allFinite (weightsIn c p t) ≡ true)
+sloped-finite sc c p s t at g h = (
+  ap allFinite (g .holds) ∙ jacobian-finite (rowsOf sc) (unknownsIn c p s) (c .rows),
+  ap allFinite (slopes-part sc s t (p .slopes) (c .n) (c .rows) (p .x) (p .next) (p .weights) (c .n) (omega arith) (omega arith) g) ∙ h,
+)
 
 -- ---- a round in memory
 

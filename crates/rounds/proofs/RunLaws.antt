@@ -164,7 +164,7 @@ module _ (sc : Scene) (c : SceneStruct) (p : PartsStruct) (s u : List Float) (to
   run-same : (o k : ℕ) → o + k ≤ p .rows → part u o k ≡ part s o k
   run-same o k h = part-below s u _ o k (rows .size) (rows .below) (omega arith)
 
-  run-keeps : Keeps c p s u
+  pub run-keeps : Keeps c p s u
   run-keeps = record { size = rows .size; weights = run-same (p .weights) (c .n) (omega arith); first = run-same (p .first) (c .n) (omega arith) }
 
   run-unknowns : unknownsIn c p u ≡ unknownsIn c p s

@@ -1,6 +1,7 @@
 // lm.rs, `solve`: trials, rounds and a run, over the lent scratch. `specs/Rounds.antt` has what stands where.
 
 ghost use mathlib.Core.Path.{_≡_};
+ghost use mathlib.Core.Bool.{true};
 ghost use Prim.Native.Nat.{_+_, _*_, _≤_, _<_};
 ghost use lib.ListN.{length};
 ghost use Rattle.least_squares.specs.Lm as lm;
@@ -59,6 +60,7 @@ pub fn one_round(
     requires { ⌜ Laid (now sheet) scene ⌝ }
     requires { ⌜ Arranged scene p (length (now s)) ⌝ }
     requires { ⌜ (scene .rows ≤ 800) × (scene .n ≤ 384) ⌝ }
+    requires { ⌜ lm.allFinite (spec.weightsIn scene p (now s)) ≡ true ⌝ }
     ensures { λ r. ⌜ spec.RoundMade (sceneOf (now (sheet .entry)) scene) scene p (now (s .entry)) (now (s .exit)) cost mu r ⌝ }
 {
     let x = p.x;
@@ -90,6 +92,7 @@ fn rounds(
     requires { ⌜ Laid (now sheet) scene ⌝ }
     requires { ⌜ Arranged scene p (length (now s)) ⌝ }
     requires { ⌜ (scene .rows ≤ 800) × (scene .n ≤ 384) ⌝ }
+    requires { ⌜ lm.allFinite (spec.weightsIn scene p (now s)) ≡ true ⌝ }
     ensures { λ e. ⌜ spec.Ran scene p (now (s .entry)) (now (s .exit)) (lm.rounds (definitions.rowsOf (sceneOf (now (sheet .entry)) scene)) (spec.weightsIn scene p (now (s .entry))) tolerance most 0 (spec.stateIn scene p (now (s .entry)) cost mu)) e ⌝ }
 {
     let mut c = cost;
@@ -123,6 +126,7 @@ pub fn run(sheet: &[u8], scene: Scene, s: &mut [f64], p: SolveParts, q: Paramete
     requires { ⌜ Laid (now sheet) scene ⌝ }
     requires { ⌜ Arranged scene p (length (now s)) ⌝ }
     requires { ⌜ (scene .n ≤ 384) × (q .limit ≤ 800) ⌝ }
+    requires { ⌜ lm.allFinite (spec.weightsIn scene p (now s)) ≡ true ⌝ }
     ensures { λ e. ⌜ spec.Ran scene p (now (s .entry)) (now (s .exit)) (lm.run (definitions.rowsOf (sceneOf (now (sheet .entry)) scene)) (spec.weightsIn scene p (now (s .entry))) (q .tolerance) (q .rounds) (q .limit) (spec.unknownsIn scene p (now (s .entry)))) e ⌝ }
 {
     rows_at(sheet, scene, s, p.x, p.rows, p.poses);

@@ -1,9 +1,10 @@
 -- `by_rounds::portion::begin`: weights, zeros for the unknowns and for those of the first run, and their rows (`ready`); judged, that is the definition's start (`started`), from
 -- which the rounds go on. Assumes nothing.
-use mathlib.Core.Path.{_∙_}
+use mathlib.Core.Path.{ap, _∙_}
 use Rattle.scene.specs.Scene.{sceneOf, parametersOf}
 use Rattle.relations.specs.Model.{bodyNumber}
-use Rattle.least_squares.specs.Lm.{listOf}
+use Rattle.least_squares.specs.Lm.{listOf, allFinite}
+use Rattle.placement.proofs.SolveLaws.{weights-finite}
 use Rattle.scene.specs.Solve.{unknowns, startAt}
 use Rattle.portions.specs.Portions.{fresh, judged, start, inverseWeights}
 use Rattle.portions.proofs.PortionLaws.{counts, start-settled}
@@ -76,7 +77,7 @@ go-requires c κs =
     let o = judged .before .before .before .before .before .before .before .before .before .before .before .before .before .before .before .before .before .before .before .before .before in
     let g = o .args in
     let range = o .pre .1 .1 .1 in
-    (o .pre .0, (arranged-same (started judged .size) (o .pre .1 .0), (o .pre .1 .1 .0, (range, ready-settled (sceneOf (g .sheet .now) (g .scene)) (g .scene) (g .p) (parametersOf (g .q)) (g .s .now) _ _ _ _ (started judged) (start-settled (sceneOf (g .sheet .now) (g .scene)) (parametersOf (g .q)) (counts (parametersOf (g .q)) range))))))
+    (o .pre .0, (arranged-same (started judged .size) (o .pre .1 .0), (o .pre .1 .1 .0, (range, (ready-settled (sceneOf (g .sheet .now) (g .scene)) (g .scene) (g .p) (parametersOf (g .q)) (g .s .now) _ _ _ _ (started judged) (start-settled (sceneOf (g .sheet .now) (g .scene)) (parametersOf (g .q)) (counts (parametersOf (g .q)) range)), ap allFinite (started judged .weights) ∙ weights-finite (sceneOf (g .sheet .now) (g .scene)) (parametersOf (g .q)) (bodyNumber (g .drag)))))))
 
 same-length : tie.Need-same-length
 same-length c = let last = c .before .before in last .go .ensures .size ∙ started (last .before .before .before .before) .size

@@ -1,7 +1,9 @@
 -- `by_rounds::portion::go`. The invariant: the rounds that are left come to what all come to, and the run that goes on has not ended by this set, so that it has few rows and
 -- has made few rounds (`few-left`). The measure is the rounds to come. Assumes nothing.
+use mathlib.Core.Path.{ap, _∙_}
 use Prim.Native.Nat.{_-_, _≤_}
 use native.Mathlib.Omega.{arith}
+use Rattle.least_squares.specs.Lm.{allFinite}
 use Rattle.scene.specs.Scene.{sceneOf, parametersOf}
 use Rattle.rounds.proofs.RoundLaws.{arranged-same}
 use Rattle.by_rounds.proofs.GoLaws.{Gone, gone-start, gone-on, gone-stop, gone-end, few-left}
@@ -19,7 +21,7 @@ loop-holds : tie.Need-loop-holds Inv-loop μ-loop
 loop-holds c =
     let o = c .before .before in
     let g = o .args in
-    (omega arith, gone-start (sceneOf (g .sheet .now) (g .scene)) (g .scene) (g .p) (parametersOf (g .q)) (g .s .now) (g .g) (g .portion) (o .pre .1 .1 .1 .1))
+    (omega arith, gone-start (sceneOf (g .sheet .now) (g .scene)) (g .scene) (g .p) (parametersOf (g .q)) (g .s .now) (g .g) (g .portion) (o .pre .1 .1 .1 .1 .0))
 
 is-running-requires : tie.Need-is-running-requires Inv-loop μ-loop
 is-running-requires c κs = search needs
@@ -31,7 +33,7 @@ one-more-requires c κs =
     let o = at .before .before .before in
     let g = o .args in
     let few = few-left (g .sheet .now) (g .scene) (g .p) (parametersOf (g .q)) (at .loop .s) (at .loop .e) _ (o .pre .0) (o .pre .1 .1 .1 .0) (at .loop .inv .1 .settled) (is .is-running .ensures) (c .before .if1 .taken) in
-    (o .pre .0, (arranged-same (at .loop .inv .1 .size) (o .pre .1 .0), (few .rows, o .pre .1 .1 .0, few .done)))
+    (o .pre .0, (arranged-same (at .loop .inv .1 .size) (o .pre .1 .0), ((few .rows, o .pre .1 .1 .0, few .done), ap allFinite (at .loop .inv .1 .weights) ∙ o .pre .1 .1 .1 .1 .1)))
 
 same-length : tie.Need-same-length Inv-loop μ-loop
 same-length c = c .before .before .before .loop .inv .1 .size

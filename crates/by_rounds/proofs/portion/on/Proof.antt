@@ -1,4 +1,7 @@
 -- `by_rounds::portion::on`: the weights are worked, and the running state stays (`weighed`); judged, it goes on as the definition does (`judged`). Assumes nothing.
+use mathlib.Core.Path.{ap, _∙_}
+use Rattle.least_squares.specs.Lm.{allFinite}
+use Rattle.placement.proofs.SolveLaws.{weights-finite}
 use Rattle.scene.specs.Scene.{sceneOf, parametersOf}
 use Rattle.relations.specs.Model.{bodyNumber}
 use Rattle.portions.specs.Portions.{judge, inverseWeights}
@@ -38,7 +41,7 @@ go-requires c κs =
     let o = last .before .before .before .before .before .before .before .before in
     let g = o .args in
     let range = o .pre .1 .1 .1 in
-    (o .pre .0, (arranged-same (judged last .size) (o .pre .1 .0), (o .pre .1 .1 .0, (range, ready-settled (sceneOf (g .sheet .now) (g .scene)) (g .scene) (g .p) (parametersOf (g .q)) (g .s .now) _ _ _ _ (judged last) (judge-settled (sceneOf (g .sheet .now) (g .scene)) (parametersOf (g .q)) (counts (parametersOf (g .q)) range) _)))))
+    (o .pre .0, (arranged-same (judged last .size) (o .pre .1 .0), (o .pre .1 .1 .0, (range, (ready-settled (sceneOf (g .sheet .now) (g .scene)) (g .scene) (g .p) (parametersOf (g .q)) (g .s .now) _ _ _ _ (judged last) (judge-settled (sceneOf (g .sheet .now) (g .scene)) (parametersOf (g .q)) (counts (parametersOf (g .q)) range) _), ap allFinite (judged last .weights) ∙ weights-finite (sceneOf (g .sheet .now) (g .scene)) (parametersOf (g .q)) (bodyNumber (g .drag)))))))
 
 same-length : tie.Need-same-length
 same-length c = search needs

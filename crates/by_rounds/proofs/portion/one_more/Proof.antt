@@ -11,7 +11,9 @@ squares-requires : tie.Need-squares-requires
 squares-requires c κs = search needs
 
 one-round-requires : tie.Need-one-round-requires
-one-round-requires c κs = search needs
+one-round-requires c κs =
+    let o = c .before .before .before .before .before in
+    (o .pre .0, (o .pre .1 .0, ((o .pre .1 .1 .0 .0, o .pre .1 .1 .0 .1), o .pre .1 .1 .1)))
 
 add-done : tie.Need-add-done
 add-done c = search needs

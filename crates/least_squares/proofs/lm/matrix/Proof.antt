@@ -1,25 +1,28 @@
 -- `least_squares::lm::matrix` meets its contract. The invariant: the first i rows up to the diagonal are the definition's for the slopes and weights at entry, and nothing outside
 -- the triangle is changed, so that the next row has the same slopes and weights (`lower-step`). From all rows the whole matrix is read (`lower-all`). The measure is the
 -- rows to come. Assumes nothing.
-use mathlib.Core.Path.{_≡_}
+use mathlib.Core.Path.{_≡_, refl, sym, subst}
 use Prim.Native.Nat.{ℕ, _+_, _*_, _≤_, _-_}
 use native.Mathlib.Nat.{not-suc-le-zero}
 use native.Mathlib.Omega.{arith}
+use lib.ListN.{length}
+use Rattle.least_squares.specs.Columns.{FiniteAt}
 use Rattle.least_squares.specs.Lm.{normalAt}
 use Rattle.least_squares.specs.Memory.{part, Kept}
 use Rattle.least_squares.specs.Triangle.{triangle}
 use Rattle.least_squares.proofs.MemoryLaws.{kept-refl}
 use Rattle.least_squares.proofs.TriangleLaws.{row-in-triangle}
 use Rattle.least_squares.proofs.LmLaws.{Lower, row-fits, lower-step, lower-all}
+use Rattle.least_squares.proofs.ColumnLaws.{finite-front, finite-above}
 use Rattle.least_squares.proofs.lm.matrix.Statement.{statement}
 use Rattle.least_squares.proofs.lm.matrix.Tie as tie
 
 abbrev Inv-loop : tie.InvT-loop
-Inv-loop s₀ n rows a w i₀ s i =
-    (i ≤ rows) × (w ≡ a + triangle rows) × Kept s₀ s a (a + triangle rows) × Lower s a (normalAt (part s₀ 0 (rows * n)) (part s₀ (a + triangle rows) n) n) i
+Inv-loop s₀ n rows a w list₀ i₀ s list i =
+    (i ≤ rows) × (w ≡ a + triangle rows) × Kept s₀ s a (a + triangle rows) × Lower s a (normalAt (part s₀ 0 (rows * n)) (part s₀ (a + triangle rows) n) n) i × (length list ≡ 384)
 
 abbrev μ-loop : tie.MeasureT-loop
-μ-loop s₀ n rows a w i₀ s i = rows - i
+μ-loop s₀ n rows a w list₀ i₀ s list i = rows - i
 
 mul-a : tie.Need-mul-a Inv-loop μ-loop
 mul-a c = omega arith
@@ -31,7 +34,7 @@ add-w : tie.Need-add-w Inv-loop μ-loop
 add-w c = let e = c .places .ensures in omega arith
 
 loop-holds : tie.Need-loop-holds Inv-loop μ-loop
-loop-holds c = let e = c .places .ensures in (omega arith, omega arith, kept-refl _ _ _, λ p h k l. absurd (not-suc-le-zero h))
+loop-holds c = let e = c .places .ensures in (omega arith, omega arith, kept-refl _ _ _, (λ p h k l. absurd (not-suc-le-zero h)), refl)
 
 places-requires-2 : tie.Need-places-requires-2 Inv-loop μ-loop
 places-requires-2 c κs = omega arith
@@ -52,9 +55,31 @@ add-matrix-row c = let e = c .places2 .ensures in omega (arith, inside (c .befor
 
 matrix-row-requires : tie.Need-matrix-row-requires Inv-loop μ-loop
 matrix-row-requires c κs =
-    let e = c .places2 .ensures in
-    let z = c .before .before .before .loop .inv .2 .size in
-    omega (arith, inside (c .before .before))
+    let st = c .before .before .before .before in
+    let b = st .before .before .before in
+    let g = b .args in
+    let o = g .s .now in
+    let s = st .loop .s in
+    let a = g .rows * g .n in
+    let kept = st .loop .inv .2 in
+    let e = c .before .places2 .ensures in
+    let z = kept .size in
+    let i = inside (c .before .before .before) in (
+      (omega arith, omega arith, st .loop .inv .4),
+      (
+        omega (arith, i),
+        (
+          omega (arith, i),
+          (
+            omega (arith, i),
+            (
+              finite-front o s (st .loop .i * g .n + g .n) a a (a + triangle (g .rows)) (i .slopes) (omega arith) kept (b .pre .1 .1 .0),
+              subst (λ (w : ℕ). FiniteAt s w (g .n)) (sym (st .loop .inv .1)) (finite-above o s (a + triangle (g .rows)) (g .n) a (a + triangle (g .rows)) (omega arith) kept (b .pre .1 .1 .1)),
+            ),
+          ),
+        ),
+      ),
+    )
 
 add-i : tie.Need-add-i Inv-loop μ-loop
 add-i c = omega arith
@@ -64,11 +89,11 @@ loop-less c = omega arith
 
 loop-again : tie.Need-loop-again Inv-loop μ-loop
 loop-again c =
-    let st = c .before .before .before .before .before .before in
-    let g = c .before .before .before .before .before .before .before .before .before .args in
-    let row = rw (c .before .before .before .places2 .ensures, st .loop .inv .1) at (c .before .before .matrix-row .ensures) in
+    let st = c .before .before .before .before .before .before .before in
+    let g = st .before .before .before .args in
+    let row = rw (c .before .before .before .before .places2 .ensures, st .loop .inv .1) at (c .before .before .matrix-row .ensures .0) in
     let r = lower-step (g .s .now) (st .loop .s) (c .before .before .matrix-row .last .0) (st .loop .i) (g .n) (g .rows) (g .rows * g .n) (g .rows * g .n + triangle (g .rows)) (omega arith) (omega arith) (omega arith) (st .loop .inv .2) (st .loop .inv .3) row in
-    (omega arith, st .loop .inv .1, r .0, r .1)
+    (omega arith, st .loop .inv .1, r .0, r .1, c .before .before .matrix-row .ensures .1)
 
 same-length : tie.Need-same-length Inv-loop μ-loop
 same-length c = c .before .loop .inv .2 .size

@@ -1,11 +1,12 @@
 -- `placement::solve::retry`: the first run's unknowns are set aside and a second run starts from a slight turn. Where it is not to be kept
 -- (`better`), the unknowns set aside come back. What the second run leaves is one fact (`again`), and each of the two ends follows from it. Assumes nothing.
-use mathlib.Core.Path.{_∙_}
+use mathlib.Core.Path.{ap, _∙_}
 use native.Mathlib.Omega.{arith}
 use borrow.Author.Needs.{needs}
+use Rattle.least_squares.specs.Lm.{allFinite}
 use Rattle.scene.specs.Scene.{sceneOf, parametersOf}
 use Rattle.rounds.proofs.RoundLaws.{arranged-same}
-use Rattle.placement.proofs.SolveLaws.{Again, again-is, retry-kept, retry-left}
+use Rattle.placement.proofs.SolveLaws.{Again, again-weights, again-is, retry-kept, retry-left}
 use Rattle.placement.proofs.solve.retry.Statement.{statement}
 use Rattle.placement.proofs.solve.retry.Tie as tie
 
@@ -20,7 +21,9 @@ run-requires c κs =
     let turned = c .before .before .before in
     let aside = turned .before .before .before .before in
     let o = aside .before .before .before .before in
-    (o .pre .0, (arranged-same (turned .put-turn .ensures .kept .size ∙ aside .copy .ensures .kept .size) (o .pre .1 .0), o .pre .1 .1))
+    let g = o .args in
+    let w = again-weights (g .scene) (g .p) (g .s .now) _ _ _ (o .pre .1 .0) (aside .copy .ensures) (turned .put-turn .ensures) in
+    (o .pre .0, (arranged-same (turned .put-turn .ensures .kept .size ∙ aside .copy .ensures .kept .size) (o .pre .1 .0), (o .pre .1 .1 .0, ap allFinite w ∙ o .pre .1 .1 .1)))
 
 -- what the second run leaves, from the scratch at entry
 again : (c : tie.After-run)

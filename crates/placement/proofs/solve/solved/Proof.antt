@@ -1,11 +1,12 @@
 -- `placement::solve::solved`: the weights and a start of zeros are written and the first run is made. What it leaves is one fact (`begun`); by it the first run is all where it
 -- converged or nothing moves, and else the retry decides. Assumes nothing.
-use mathlib.Core.Path.{_∙_}
+use mathlib.Core.Path.{ap, _∙_}
 use borrow.Author.Needs.{needs}
 use Rattle.relations.specs.Model.{bodyNumber}
+use Rattle.least_squares.specs.Lm.{allFinite}
 use Rattle.scene.specs.Scene.{sceneOf, parametersOf}
 use Rattle.rounds.proofs.RoundLaws.{arranged-same}
-use Rattle.placement.proofs.SolveLaws.{Begun, begun-is, first-converged, first-still, twice}
+use Rattle.placement.proofs.SolveLaws.{Begun, weights-finite, begun-weights, begun-is, first-converged, first-still, twice}
 use Rattle.placement.proofs.solve.solved.Statement.{statement}
 use Rattle.placement.proofs.solve.solved.Tie as tie
 
@@ -20,7 +21,9 @@ run-requires c κs =
     let started = c .before .before .before in
     let weighed = started .before .before .before .before in
     let o = weighed .before .before .before .before in
-    (o .pre .0, (arranged-same (started .put-start .ensures .kept .size ∙ weighed .inverse-weights .ensures .kept .size) (o .pre .1 .0), o .pre .1 .1))
+    let g = o .args in
+    let w = begun-weights (sceneOf (g .sheet .now) (g .scene)) (g .scene) (g .p) (parametersOf (g .q)) (bodyNumber (g .drag)) (g .s .now) _ _ (o .pre .1 .0) (weighed .inverse-weights .ensures) (started .put-start .ensures) in
+    (o .pre .0, (arranged-same (started .put-start .ensures .kept .size ∙ weighed .inverse-weights .ensures .kept .size) (o .pre .1 .0), (o .pre .1 .1, ap allFinite w ∙ weights-finite (sceneOf (g .sheet .now) (g .scene)) (parametersOf (g .q)) (bodyNumber (g .drag)))))
 
 -- what the first run leaves, from the scratch at entry
 begun : (c : tie.After-run)
@@ -59,7 +62,8 @@ retry-requires : tie.Need-retry-requires
 retry-requires c κs =
     let ran = c .before .before .before .before .before in
     let o = ran .before .before .before .before .before .before .before .before .before .before .before .before in
-    (o .pre .0, (arranged-same (begun ran .size) (o .pre .1 .0), o .pre .1 .1))
+    let g = o .args in
+    (o .pre .0, (arranged-same (begun ran .size) (o .pre .1 .0), (o .pre .1 .1, ap allFinite (begun ran .weights-are) ∙ weights-finite (sceneOf (g .sheet .now) (g .scene)) (parametersOf (g .q)) (bodyNumber (g .drag)))))
 
 same-length-3 : tie.Need-same-length-3
 same-length-3 c = search needs

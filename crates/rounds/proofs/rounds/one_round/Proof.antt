@@ -9,7 +9,7 @@ use borrow.Rule.Slice.PartMut.{putMid}
 use lib.ListN.{length}
 use lib.Ieee.{Float}
 use Rattle.scene.specs.Scene.{sceneOf, Slopes}
-use Rattle.rounds.proofs.RoundLaws.{arranged-same, apart-lent, matrix-room, slopes-lent, Formed, matrix-lent, round-made}
+use Rattle.rounds.proofs.RoundLaws.{arranged-same, apart-lent, matrix-room, matrix-finite, sloped-finite, slopes-lent, Formed, matrix-lent, round-made}
 use Rattle.rounds.proofs.rounds.one_round.Statement.{statement}
 use Rattle.rounds.proofs.rounds.one_round.Tie as tie
 
@@ -76,14 +76,16 @@ matrix-requires c κs =
     let d = c .before .before .before in
     let o = d .before .before .before .before in
     let g = o .args in
-    (o .pre .1 .1, matrix-room (g .scene) (g .p) (withSlopes d) (arranged-same (sloped d .size) (o .pre .1 .0)))
+    let at = arranged-same (sloped d .size) (o .pre .1 .0) in
+    let f = sloped-finite (sceneOf (g .sheet .now) (g .scene)) (g .scene) (g .p) (g .s .now) (withSlopes d) (o .pre .1 .0) (sloped d) (o .pre .1 .1 .1) in
+    (o .pre .1 .1 .0, (matrix-room (g .scene) (g .p) (withSlopes d) at, matrix-finite (g .scene) (g .p) (withSlopes d) at (f .0) (f .1)))
 
 trials-requires : tie.Need-trials-requires
 trials-requires c κs =
     let m = c .before .before .before in
     let d = m .before .before .before .before in
     let o = d .before .before .before .before in
-    (o .pre .0, (arranged-same (formed m .kept .size ∙ sloped d .size) (o .pre .1 .0), o .pre .1 .1))
+    (o .pre .0, (arranged-same (formed m .kept .size ∙ sloped d .size) (o .pre .1 .0), o .pre .1 .1 .0))
 
 same-length : tie.Need-same-length
 same-length c =

@@ -1,8 +1,9 @@
 -- `rounds::rounds::rounds`. The invariant: the rounds that are left come to what all come to, and the scratch that is not theirs is as it was. A round that ends the loop,
 -- within the tolerance or not better, is the definition's last; the measure is the rounds to come. Assumes nothing.
-use mathlib.Core.Path.{_∙_}
+use mathlib.Core.Path.{ap, _∙_}
 use Prim.Native.Nat.{_-_, _≤_}
 use native.Mathlib.Omega.{arith}
+use Rattle.least_squares.specs.Lm.{allFinite}
 use Rattle.scene.specs.Scene.{sceneOf}
 use Rattle.rounds.proofs.RoundLaws.{arranged-same}
 use Rattle.rounds.proofs.RunLaws.{Going, going-start, going-in, going-stop, going-on, going-end}
@@ -22,7 +23,7 @@ one-round-requires : tie.Need-one-round-requires Inv-loop μ-loop
 one-round-requires c κs =
     let at = c .before .before in
     let o = at .before .before .before in
-    (o .pre .0, (arranged-same (at .loop .inv .1 .keeps .size) (o .pre .1 .0), o .pre .1 .1))
+    (o .pre .0, (arranged-same (at .loop .inv .1 .keeps .size) (o .pre .1 .0), (o .pre .1 .1 .0, ap allFinite (at .loop .inv .1 .keeps .weights) ∙ o .pre .1 .1 .1)))
 
 within-requires : tie.Need-within-requires Inv-loop μ-loop
 within-requires c κs =

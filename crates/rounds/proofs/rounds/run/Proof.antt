@@ -1,11 +1,12 @@
 -- `rounds::rounds::run`: once the rows at the unknowns are worked, a run ends at once where there are none, where they are within the tolerance, where nothing moves or where
 -- they are too many; else the rounds make it. Each of the five ends is one law of RunLaws over the scratch with those rows. Assumes nothing.
-use mathlib.Core.Path.{_∙_}
+use mathlib.Core.Path.{ap, _∙_}
 use native.Mathlib.Nat.{le-trans}
 use native.Mathlib.Omega.{arith}
+use Rattle.least_squares.specs.Lm.{allFinite}
 use Rattle.scene.specs.Scene.{sceneOf}
 use Rattle.rounds.proofs.RoundLaws.{arranged-same}
-use Rattle.rounds.proofs.RunLaws.{ran-empty, ran-within, ran-fixed, ran-large, ran-rounds}
+use Rattle.rounds.proofs.RunLaws.{run-keeps, ran-empty, ran-within, ran-fixed, ran-large, ran-rounds}
 use Rattle.rounds.proofs.rounds.run.Statement.{statement}
 use Rattle.rounds.proofs.rounds.run.Tie as tie
 
@@ -84,7 +85,9 @@ rounds-requires c κs =
     let few = c .before .before .before in
     let rows = few .before .before .before .before .before .before .before .before .before .before in
     let o = rows .before .before .before .before in
-    (o .pre .0, (arranged-same (rows .rows-at .ensures .size) (o .pre .1 .0), (le-trans (few .if4 .left) (o .pre .1 .1 .1), o .pre .1 .1 .0)))
+    let g = o .args in
+    let k = run-keeps (sceneOf (g .sheet .now) (g .scene)) (g .scene) (g .p) (g .s .now) _ (g .q .tolerance) (g .q .rounds) (g .q .limit) (o .pre .1 .0) (rows .rows-at .ensures) in
+    (o .pre .0, (arranged-same (rows .rows-at .ensures .size) (o .pre .1 .0), ((le-trans (few .if4 .left) (o .pre .1 .1 .0 .1), o .pre .1 .1 .0 .0), ap allFinite (k .weights) ∙ o .pre .1 .1 .1)))
 
 same-length-5 : tie.Need-same-length-5
 same-length-5 c =
