@@ -1,33 +1,36 @@
--- One body's rows and slopes: the poses of the frames, the rows relation by relation, the slopes column by column, the six by six. One pose put anew is by the laws of slopes.
--- Assumes nothing.
+-- One body's rows and slopes: the poses of the frames, the body's poses a step ahead and behind, the slopes relation by relation, the six by six. Slopes side by side and rows one
+-- after another are by the laws of slopes. Assumes nothing.
 use mathlib.Core.Path.{_≡_, refl, sym, ap, subst, _∙_}
-use mathlib.Core.Logic.{inl, inr}
 use mathlib.Core.Bool.{Bool, true, false, _||_, cond}
 use mathlib.Core.List.{List, [], _∷_, _++_, map}
-use Prim.Native.Nat.{ℕ, zero, suc, _+_, _-_, _*_, _≤_, _<_}
+use Prim.Native.Nat.{ℕ, zero, suc, _+_, _*_, _≤_, _<_}
 use native.Mathlib.Omega.{arith}
 use native.Mathlib.Numerals.{add-one}
-use native.Mathlib.Nat.{not-suc-le-zero, le-of-suc-le-suc, eq-or-lt-of-le, mul-le-mul, mul-le-mul-right, mul-comm}
-use lib.ListN.{length, getD, set, drop, length-append, length-map}
-use lib.Seq.{set-set}
+use native.Mathlib.Nat.{not-suc-le-zero, mul-le-mul, mul-le-mul-right, mul-comm}
+use lib.ListN.{length, getD, set, drop, length-drop, length-append, length-map, List·getD-append}
+use lib.Seq.{getD-drop, drop-drop, drop-append-seam}
 use lib.Ieee.{Float, nan, binary64, add, sub, mul, div}
 use Rattle.numbers.specs.Double.{zero64}
 use Rattle.spans.specs.Flat.{flatTo, flat}
 use Rattle.relations.specs.Geometry.{Pose}
 use Rattle.relations.specs.Model.{Body, Rel, poseOfFrame}
+use Rattle.judging.specs.Count.{rowCount}
+use Rattle.judging.proofs.CountLaws.{residual-length}
 use Rattle.records.specs.Record.{bodyAt, relAt}
 use Rattle.scene.specs.Scene.{sceneIn}
 use Rattle.least_squares.specs.Lm.{listOf, tableOf, stepOf, slopeOf, ahead, behind, slope, jacobian}
 use Rattle.least_squares.specs.Memory.{part}
 use Rattle.scene.specs.Solve.{Scene, names, named, moves, layoutFrom, unknownsIn, three, movedPose, rowsAt, allRows, halfSize}
-use Rattle.scene.specs.Scene.{sceneOf, Laid, relRows, poseDoubles, posesDoubles, posesIn, Put, PutNext, Column}
+use Rattle.scene.specs.Scene.{sceneOf, Laid, poseDoubles, posesDoubles, poseIn, posesIn, Put}
 use Rattle.body_freedom.specs.Dof.{relsOf, withBody, bodyRows, zeros, columnsTimes, squareOf}
 use Rattle.scene.specs.declared.scene.Scene.{Scene as SceneStruct}
-use Rattle.least_squares.proofs.MemoryLaws.{part-length, part-at, kept-part-below, kept-at-below}
-use Rattle.least_squares.proofs.TableLaws.{length-listOf, getD-listOf, sum-same, in-rows, length-tableOf, getD-tableOf, table-ext}
+use Rattle.least_squares.proofs.MemoryLaws.{part-length, part-at, kept-at-below, kept-at-above}
+use Rattle.least_squares.proofs.TableLaws.{length-listOf, getD-listOf, one-more, sum-same, in-rows, length-tableOf, getD-tableOf, table-ext}
 use Rattle.scene.proofs.RowCountLaws.{rows-alike}
-use Rattle.scene.proofs.SceneLaws.{Growing, growing-step, growing-room, growing-end, listOf-next, drop-whole, length-bodies, bodies-next, next-layout, poses-kept, poses-there, poses-put}
-use Rattle.body_freedom.specs.BodySlopes.{bodyParts, BodyApart, starts, shifted, namedRows, rowsOn, movedRows, RowsMoved, BodyColumn, BodySlopes, BodySquare}
+use Rattle.scene.proofs.SceneLaws.{Growing, growing-step, listOf-next, drop-whole, length-bodies, bodies-next, next-layout, poses-there, pose-same, pose-put}
+use Rattle.slopes.specs.Moved.{posesAhead, posesBehind, movedSlope, Block}
+use Rattle.slopes.proofs.MovedLaws.{rel-length, block-no-rows, block-rows, block-as, block-poses}
+use Rattle.body_freedom.specs.BodySlopes.{bodyParts, BodyApart, starts, shifted, MovedPoses, sixSteps, namedRows, rowsOn, movedRows, NamedSlopes, SlopesOn, BodySlopes, BodySquare}
 use Rattle.body_freedom.specs.declared.body_slopes.BodyParts.{BodyParts as BodyPartsStruct}
 
 -- ---- where the parts stand
@@ -38,11 +41,11 @@ few-slopes c h l = mul-le-mul h l
 
 -- each part from where the last ended: no part reaches into the next
 pub body-apart : (c : SceneStruct) (p : BodyPartsStruct) (size : ℕ) → p ≡ bodyParts c → bodyParts c .poses + 12 * c .m ≤ size → BodyApart c p size
-body-apart c p size e h = rw e (record { slopes = omega arith; ahead = omega arith; behind = omega arith; poses = h })
+body-apart c p size e h = rw e (record { slopes = omega arith; poses = h })
 
 -- the same in a scratch of the same size
 pub still-apart : (c : SceneStruct) (p : BodyPartsStruct) (size size' : ℕ) → size' ≡ size → BodyApart c p size → BodyApart c p size'
-still-apart c p size size' e h = record { slopes = h .slopes; ahead = h .ahead; behind = h .behind; poses = omega arith }
+still-apart c p size size' e h = record { slopes = h .slopes; poses = omega arith }
 
 -- ---- the poses of the frames
 
@@ -84,20 +87,44 @@ shifted-is b x l q e f =
 pub put-as : (s t : List Float) (o : ℕ) (q w : Pose Float) → q ≡ w → Put s t o 12 (poseDoubles q) → Put s t o 12 (poseDoubles w)
 put-as s t o q w e y = subst (λ (v : Pose Float). Put s t o 12 (poseDoubles v)) e y
 
-pub next-as : (s t : List Float) (o r : ℕ) (l w : List Float) → w ≡ l → PutNext s t o r (length l) l → PutNext s t o r (length w) w
-next-as s t o r l w e y = subst (λ (v : List Float). PutNext s t o r (length v) v) (sym e) y
+-- where the relation names the body, and where it does not
+pub named-yes : (rel : Rel) (i : ℕ) (poses : List (Pose Float)) → names rel i ≡ true → namedRows rel i poses ≡ rowsAt poses rel
+named-yes rel i poses e = ap (λ (t : Bool). cond t (rowsAt poses rel) []) e
 
-pub named-yes : (sheet : List ℕ) (c : SceneStruct) (poses : List (Pose Float)) (i j : ℕ) → names (relAt sheet (c .rels + 264 * j)) i ≡ true
-    → namedRows sheet c poses i j ≡ relRows sheet c poses j
-named-yes sheet c poses i j e = ap (λ (t : Bool). cond t (relRows sheet c poses j) []) e
+named-no : (rel : Rel) (i : ℕ) (poses : List (Pose Float)) → names rel i ≡ false → namedRows rel i poses ≡ []
+named-no rel i poses e = ap (λ (t : Bool). cond t (rowsAt poses rel) []) e
 
-pub named-no : (sheet : List ℕ) (c : SceneStruct) (poses : List (Pose Float)) (i j : ℕ) → names (relAt sheet (c .rels + 264 * j)) i ≡ false → namedRows sheet c poses i j ≡ []
-named-no sheet c poses i j e = ap (λ (t : Bool). cond t (relRows sheet c poses j) []) e
+-- how many rows there are does not depend on the poses
+named-alike : (rel : Rel) (i : ℕ) (poses poses' : List (Pose Float)) → length (namedRows rel i poses) ≡ length (namedRows rel i poses')
+named-alike rel i poses poses' = go (names rel i)
+  where
+    go : (t : Bool) → length (cond t (rowsAt poses rel) []) ≡ length (cond t (rowsAt poses' rel) [])
+    go true = rel-length poses poses' rel
+    go false = refl
+
+-- the slopes of a relation read from the sheet
+pub named-slopes-yes : (s t moved steps : List Float) (p m i : ℕ) (rel rel' : Rel) (row count : ℕ) → rel ≡ rel' → names rel i ≡ true → count ≡ rowCount (rel .law) (rel .a .prim) (rel .b .prim)
+    → Block s t (row * 6) 6 (length (rowsAt (posesIn s p m) rel)) 6 (movedSlope (λ poses. rowsAt poses rel) (posesIn s p m) i moved steps)
+    → NamedSlopes s t moved steps p m i rel' row (row + count)
+named-slopes-yes s t moved steps p m i rel rel' row count e n d b =
+    let f : _≡_ {A = List (Pose Float) → List Float} (λ poses. rowsAt poses rel) (namedRows rel i) = λ z poses. cond (sym n z) (rowsAt poses rel) [] in
+    let k : count ≡ length (namedRows rel i (posesIn s p m)) = d ∙ sym (residual-length _ _ _ _ _ _) ∙ (λ z. length (f z (posesIn s p m))) in
+    subst (λ (w : Rel). NamedSlopes s t moved steps p m i w row (row + count)) e
+    (record {
+      next = ap (λ (w : ℕ). row + w) k;
+      block = subst (λ (w : List (Pose Float) → List Float). Block s t (row * 6) 6 (length (w (posesIn s p m))) 6 (movedSlope w (posesIn s p m) i moved steps)) f b;
+    })
+
+pub named-slopes-no : (s moved steps : List Float) (p m i : ℕ) (rel rel' : Rel) (row : ℕ) → rel ≡ rel' → names rel i ≡ false → NamedSlopes s s moved steps p m i rel' row row
+named-slopes-no s moved steps p m i rel rel' row e n =
+    let k : 0 ≡ length (namedRows rel i (posesIn s p m)) = ap length (sym (named-no rel i (posesIn s p m) n)) in
+    subst (λ (w : Rel). NamedSlopes s s moved steps p m i w row row) e
+    (record { next = omega arith; block = block-as s s _ 6 0 _ 6 6 _ k refl (block-no-rows s _ 6 _ 6) })
 
 -- ---- the rows of one body
 
 -- the rows from relation j on
-abbrev pub restOn : List ℕ → SceneStruct → ℕ → List (Pose Float) → ℕ → List Float
+abbrev restOn : List ℕ → SceneStruct → ℕ → List (Pose Float) → ℕ → List Float
 restOn sheet c i poses j = allRows poses (relsOf (drop j (sceneOf sheet c .rels)) i)
 
 on-cons : (poses : List (Pose Float)) (rel : Rel) (rels : List Rel) (t : Bool) → allRows poses (cond t (rel ∷ rels) rels) ≡ cond t (rowsAt poses rel) [] ++ allRows poses rels
@@ -106,23 +133,20 @@ on-cons poses rel rels true = refl
 on-cons poses rel rels false = refl
 
 on-next : (sheet : List ℕ) (c : SceneStruct) (i : ℕ) (poses : List (Pose Float)) (j : ℕ) → j < c .k
-    → restOn sheet c i poses j ≡ namedRows sheet c poses i j ++ restOn sheet c i poses (suc j)
+    → restOn sheet c i poses j ≡ namedRows (relAt sheet (c .rels + 264 * j)) i poses ++ restOn sheet c i poses (suc j)
 unfolding sceneIn relsOf
 on-next sheet c i poses j h =
     ap (λ (l : List Rel). allRows poses (relsOf l i)) (listOf-next (λ j. relAt sheet (c .rels + 264 * j)) (c .k) j h)
     ∙ on-cons poses (relAt sheet (c .rels + 264 * j)) (relsOf (drop (suc j) (sceneOf sheet c .rels)) i) (names (relAt sheet (c .rels + 264 * j)) i)
 
-pub on-done : (sheet : List ℕ) (c : SceneStruct) (i : ℕ) (poses : List (Pose Float)) (j : ℕ) → j ≡ c .k → restOn sheet c i poses j ≡ []
+on-done : (sheet : List ℕ) (c : SceneStruct) (i : ℕ) (poses : List (Pose Float)) (j : ℕ) → j ≡ c .k → restOn sheet c i poses j ≡ []
 unfolding sceneIn allRows relsOf
 on-done sheet c i poses j e =
     ap (λ (l : List Rel). allRows poses (relsOf l i)) (drop-whole (sceneOf sheet c .rels) j (length-listOf (λ j. relAt sheet (c .rels + 264 * j)) (c .k) ∙ sym e))
 
 -- how many rows there are does not depend on the poses
-pub on-alike : (sc : Scene) (i : ℕ) (poses poses' : List (Pose Float)) → length (rowsOn sc i poses) ≡ length (rowsOn sc i poses')
+on-alike : (sc : Scene) (i : ℕ) (poses poses' : List (Pose Float)) → length (rowsOn sc i poses) ≡ length (rowsOn sc i poses')
 on-alike sc i poses poses' = rows-alike (relsOf (sc .rels) i) poses poses'
-
-pub count-alike : (sc : Scene) (i : ℕ) (poses poses' : List (Pose Float)) (rows : ℕ) → rows ≡ length (rowsOn sc i poses) → rows ≡ length (rowsOn sc i poses')
-count-alike sc i poses poses' rows e = e ∙ on-alike sc i poses poses'
 
 -- they are among all rows
 on-among : (rels : List Rel) (i : ℕ) (poses : List (Pose Float)) → length (allRows poses (relsOf rels i)) ≤ length (allRows poses rels)
@@ -144,44 +168,76 @@ on-fits sheet c i poses laid =
     let b = laid .row-count poses in
     omega arith
 
-module _ (sheet : List ℕ) (c : SceneStruct) (i : ℕ) (s t : List Float) (p r at j : ℕ) (laid : Laid sheet c) (h : j < c .k) (l : r ≤ at) (m : at ≤ p) (f : p + 12 * c .m ≤ length s)
-    (g : Growing s t r (at - r) (restOn sheet c i (posesIn s p (c .m)) j) (rowsOn (sceneOf sheet c) i (posesIn s p (c .m)))) where
-  same-poses : posesIn t p (c .m) ≡ posesIn s p (c .m)
-  same-poses = poses-kept s t r (r + (at - r)) p (c .m) (omega arith) (g .kept)
+-- from row r on stand the rows of the relations from j on, wherever the bodies stand
+pub record Passed (sheet : List ℕ) (c : SceneStruct) (i j r : ℕ) : Type 0 where
+  pub rest : (poses : List (Pose Float)) → drop r (rowsOn (sceneOf sheet c) i poses) ≡ restOn sheet c i poses j
+  pub among : (poses : List (Pose Float)) → r ≤ length (rowsOn (sceneOf sheet c) i poses)
 
-  next-on : restOn sheet c i (posesIn s p (c .m)) j ≡ namedRows sheet c (posesIn s p (c .m)) i j ++ restOn sheet c i (posesIn s p (c .m)) (j + 1)
-  next-on = rw add-one (on-next sheet c i (posesIn s p (c .m)) j h)
+pub passed-start : (sheet : List ℕ) (c : SceneStruct) (i : ℕ) → Passed sheet c i 0 0
+passed-start sheet c i = record { rest = λ poses. refl; among = λ poses. omega arith }
 
-  pub on-room : r + c .rows ≤ p → at + length (namedRows sheet c (posesIn t p (c .m)) i j) ≤ p
-  on-room w =
-      let a : at - r + length (namedRows sheet c (posesIn s p (c .m)) i j) ≤ length (rowsOn (sceneOf sheet c) i (posesIn s p (c .m)))
-      = growing-room s t r (at - r) (namedRows sheet c (posesIn s p (c .m)) i j) (restOn sheet c i (posesIn s p (c .m)) j) (restOn sheet c i (posesIn s p (c .m)) (j + 1))
-      (rowsOn (sceneOf sheet c) i (posesIn s p (c .m)))
-      (omega arith)
-      next-on
-      g in
-      let b = on-fits sheet c i (posesIn s p (c .m)) laid in
-      let d = ap (λ (q : List (Pose Float)). length (namedRows sheet c q i j)) same-poses in
+module _ (sheet : List ℕ) (c : SceneStruct) (i j r : ℕ) (h : j < c .k) (g : Passed sheet c i j r) where
+  abbrev one : List (Pose Float) → List Float
+  one poses = namedRows (relAt sheet (c .rels + 264 * j)) i poses
+
+  abbrev all : List (Pose Float) → List Float
+  all poses = rowsOn (sceneOf sheet c) i poses
+
+  passed-next : (poses : List (Pose Float)) → drop r (all poses) ≡ one poses ++ restOn sheet c i poses (suc j)
+  passed-next poses = g .rest poses ∙ on-next sheet c i poses j h
+
+  pub passed-room : (poses poses' : List (Pose Float)) → r + length (one poses) ≤ length (all poses')
+  passed-room poses poses' =
+      let a = length-drop r (all poses) in
+      let d = ap length (passed-next poses) in
+      let e = length-append (one poses) (restOn sheet c i poses (suc j)) in
+      let w = g .among poses in
+      let n = on-alike (sceneOf sheet c) i poses poses' in
       omega arith
 
-  pub on-step : (u : List Float) (at' : ℕ)
-      → PutNext t u at at' (length (namedRows sheet c (posesIn t p (c .m)) i j)) (namedRows sheet c (posesIn t p (c .m)) i j)
-      → Growing s u r (at' - r) (restOn sheet c i (posesIn s p (c .m)) (j + 1)) (rowsOn (sceneOf sheet c) i (posesIn s p (c .m)))
-  on-step u at' y =
-      let z : PutNext t u at at' (length (namedRows sheet c (posesIn s p (c .m)) i j)) (namedRows sheet c (posesIn s p (c .m)) i j)
-      = subst (λ (q : List (Pose Float)). PutNext t u at at' (length (namedRows sheet c q i j)) (namedRows sheet c q i j)) same-poses y in
-      let n = z .next in
-      growing-step s t u r (at - r) at (length (namedRows sheet c (posesIn s p (c .m)) i j)) (at' - r) _ _ _ _ (omega arith) (omega arith) next-on g (z .put)
+  pub passed-step : (poses : List (Pose Float)) (q : ℕ) → q ≡ r + length (one poses) → Passed sheet c i (j + 1) q
+  passed-step poses q e = record { rest = go; among = λ poses'. let w = passed-room poses poses' in omega arith }
+    where
+      go : (w : List (Pose Float)) → drop q (all w) ≡ restOn sheet c i w (j + 1)
+      go w =
+          let n : q ≡ r + length (one w) = e ∙ ap (λ (x : ℕ). r + x) (named-alike (relAt sheet (c .rels + 264 * j)) i poses w) in
+          ap (λ (x : ℕ). drop x (all w)) n ∙ sym (drop-drop (length (one w)) r (all w)) ∙ ap (drop (length (one w))) (passed-next w)
+          ∙ drop-append-seam (one w) (restOn sheet c i w (suc j))
+          ∙ ap (restOn sheet c i w) (sym (add-one j))
 
--- all rows are written
-pub put-on : (s t : List Float) (r at : ℕ) (rest whole : List Float) → r ≤ at → at ≤ length s → rest ≡ [] → Growing s t r (at - r) rest whole → PutNext s t r at (length whole) whole
-put-on s t r at rest whole h l e g =
-    let y = growing-end s t r (at - r) rest whole e g in
-    let z = y .kept .size in
-    let w = part-length t r (at - r) (omega arith) in
-    let a = ap length (y .holds) in
-    let q : at - r ≡ length whole = omega arith in
-    record { next = omega arith; put = subst (λ (v : ℕ). Put s t r v whole) q y }
+  passed-at : (poses : List (Pose Float)) (q : ℕ) → q < length (one poses) → getD (one poses) q nan ≡ getD (all poses) (r + q) nan
+  passed-at poses q l =
+      sym (List·getD-append (one poses) (restOn sheet c i poses (suc j)) nan q l) ∙ ap (λ (w : List Float). getD w q nan) (sym (passed-next poses))
+      ∙ getD-drop r (all poses) q nan
+
+  -- the slopes of the relation's rows are those of the rows from r on
+  passed-slope : (poses poses' : List (Pose Float)) (moved steps : List Float) (q e : ℕ) → poses' ≡ poses → q < length (one poses')
+      → movedSlope one poses' i moved steps q e ≡ movedSlope all poses i moved steps (r + q) e
+  passed-slope poses poses' moved steps q e same l =
+      let a = posesAhead poses' i moved e in
+      let b = posesBehind poses' i moved e in
+      let rel = relAt sheet (c .rels + 264 * j) in
+      let x = passed-at a q (rw (named-alike rel i a poses') l) in
+      let y = passed-at b q (rw (named-alike rel i b poses') l) in
+      (λ z. slopeOf (x z) (y z) (getD steps e nan)) ∙ ap (λ (w : List (Pose Float)). movedSlope all w i moved steps (r + q) e) same
+
+  pub passed-slopes : (s t u moved steps : List Float) (p q : ℕ) → r * 6 ≤ p → Block s t 0 6 r 6 (movedSlope all (posesIn s p (c .m)) i moved steps)
+      → NamedSlopes t u moved steps p (c .m) i (relAt sheet (c .rels + 264 * j)) r q
+      → Block s u 0 6 q 6 (movedSlope all (posesIn s p (c .m)) i moved steps)
+  passed-slopes s t u moved steps p q f b y =
+      let same = block-poses s t 0 6 r 6 p (c .m) _ (omega arith) (omega arith) b in
+      let z : r * 6 ≡ 0 + r * 6 = omega arith in
+      block-as s u 0 6 _ _ 6 6 _ (sym (y .next)) refl
+      (block-rows s 0 6 (movedSlope all (posesIn s p (c .m)) i moved steps) t u r (length (one (posesIn t p (c .m)))) 6 (movedSlope one (posesIn t p (c .m)) i moved steps) (omega arith)
+      (λ k e a d. passed-slope (posesIn s p (c .m)) (posesIn t p (c .m)) moved steps k e same a) b
+      (subst (λ (o : ℕ). Block t u o 6 (length (one (posesIn t p (c .m)))) 6 (movedSlope one (posesIn t p (c .m)) i moved steps)) z (y .block)))
+
+pub passed-end : (sheet : List ℕ) (c : SceneStruct) (i : ℕ) (poses : List (Pose Float)) (j r : ℕ) → j ≡ c .k → Passed sheet c i j r → r ≡ length (rowsOn (sceneOf sheet c) i poses)
+passed-end sheet c i poses j r e g =
+    let a = length-drop r (rowsOn (sceneOf sheet c) i poses) in
+    let d = ap length (g .rest poses ∙ on-done sheet c i poses j e) in
+    let w = g .among poses in
+    omega arith
 
 -- ---- the rows fit six to a row where the body moves
 
@@ -239,128 +295,93 @@ module _ (sheet : List ℕ) (c : SceneStruct) (i : ℕ) (poses : List (Pose Floa
           let a : length (rowsOn (sceneOf sheet c) i poses) ≡ 0 = ap (λ (l : List Rel). length (allRows poses l)) (on-none (sceneOf sheet c .rels) i e) in
           omega arith
 
--- ---- the rows at its six unknowns
+-- ---- the body's poses a step ahead and behind
 
-pub rows-moved-is : (sc : Scene) (s u t : List Float) (p m i : ℕ) (b : Body) (x : List Float) (r q rows : ℕ) → i < m → length (rowsOn sc i (posesIn u p m)) ≤ rows → r + rows ≤ p
-    → Put s u (p + 12 * i) 12 (poseDoubles (shifted b x)) → PutNext u t r q (length (rowsOn sc i (posesIn u p m))) (rowsOn sc i (posesIn u p m))
-    → RowsMoved sc s t p m i b x r q
-unfolding withBody
-rows-moved-is sc s u t p m i b x r q rows h l f y z =
-    let e = poses-put s u p m i (shifted b x) h y in
-    let n = on-alike sc i (posesIn u p m) (posesIn s p m) in
-    let k = poses-kept u t r (r + length (rowsOn sc i (posesIn u p m))) p m (omega arith) (z .put .kept) in
-    record {
-      next = z .next ∙ ap (λ (w : ℕ). r + w) n;
-      size = z .put .kept .size ∙ y .kept .size;
-      holds = ap (λ (w : ℕ). part t r w) (sym n) ∙ z .put .holds ∙ ap (rowsOn sc i) e;
-      below =
-          λ w v.
-          kept-at-below u t r (r + length (rowsOn sc i (posesIn u p m))) w nan v (z .put .kept) ∙ kept-at-below s u (p + 12 * i) (p + 12 * i + 12) w nan (omega arith) (y .kept);
-      poses = λ w. ap (λ (v : List (Pose Float)). set v i w) (k ∙ e) ∙ set-set (posesIn s p m) i (shifted b x) w;
-    }
-
--- ---- one column
-
--- the rows as a function of the unknowns do not depend on where body i stands
-moved-alike : (sc : Scene) (i : ℕ) (b : Body) (poses poses' : List (Pose Float)) → ((w : Pose Float) → set poses' i w ≡ set poses i w) → movedRows sc poses' i b ≡ movedRows sc poses i b
-unfolding withBody
-moved-alike sc i b poses poses' h = λ z x. rowsOn sc i (h (shifted b x) z)
-
-module _ (sc : Scene) (s s1 s2 t : List Float) (p m i : ℕ) (bd : Body) (c a b rows qa qb n : ℕ) (x1 x2 : List Float) (h : Float)
-    (c-in : c < 6) (n-is : n ≡ length (rowsOn sc i (posesIn s p m))) (n-rows : n ≤ rows) (n-a : n * 6 ≤ a) (a-b : a + rows ≤ b) (b-p : b + rows ≤ p) (p-s : p ≤ length s)
-    (h-is : h ≡ stepOf zero64) (x1-is : x1 ≡ set (zeros 6) c (add binary64 zero64 h)) (x2-is : x2 ≡ set (zeros 6) c (sub binary64 zero64 h))
-    (up : RowsMoved sc s s1 p m i bd x1 a qa)
-    (down : RowsMoved sc s1 s2 p m i bd x2 b qb)
-    (col : Column s2 t 0 6 n c (λ k. slopeOf (getD s2 (a + k) nan) (getD s2 (b + k) nan) h)) where
-  v-at : getD (zeros 6) c nan ≡ zero64
-  v-at = getD-listOf (λ i. zero64) 6 c nan c-in
-
-  step-at : h ≡ stepOf (getD (zeros 6) c nan)
-  step-at = h-is ∙ ap stepOf (sym v-at)
-
-  ahead-is : x1 ≡ ahead (zeros 6) c (stepOf (getD (zeros 6) c nan))
-  ahead-is = x1-is ∙ (λ z. set (zeros 6) c (add binary64 (sym v-at z) (step-at z)))
-
-  behind-is : x2 ≡ behind (zeros 6) c (stepOf (getD (zeros 6) c nan))
-  behind-is = x2-is ∙ (λ z. set (zeros 6) c (sub binary64 (sym v-at z) (step-at z)))
-
-  plus-at : (k : ℕ) → k < n → getD s2 (a + k) nan ≡ getD (movedRows sc (posesIn s p m) i bd (ahead (zeros 6) c (stepOf (getD (zeros 6) c nan)))) k nan
-  plus-at k l =
-      down .below (a + k) (omega arith) ∙ sym (part-at s1 a n k nan l) ∙ ap (λ (w : ℕ). getD (part s1 a w) k nan) n-is
-      ∙ ap (λ (w : List Float). getD w k nan) (up .holds)
-      ∙ ap (λ (w : List Float). getD (movedRows sc (posesIn s p m) i bd w) k nan) ahead-is
-
-  minus-at : (k : ℕ) → k < n → getD s2 (b + k) nan ≡ getD (movedRows sc (posesIn s p m) i bd (behind (zeros 6) c (stepOf (getD (zeros 6) c nan)))) k nan
-  minus-at k l =
-      sym (part-at s2 b n k nan l) ∙ ap (λ (w : ℕ). getD (part s2 b w) k nan) (n-is ∙ on-alike sc i (posesIn s p m) (posesIn s1 p m))
-      ∙ ap (λ (w : List Float). getD w k nan) (down .holds)
-      ∙ (λ z. getD (moved-alike sc i bd (posesIn s p m) (posesIn s1 p m) (up .poses) z (behind-is z)) k nan)
-
-  before : (q : ℕ) → q < a → getD s2 q nan ≡ getD s q nan
-  before q l = down .below q (omega arith) ∙ up .below q l
-
-  pub body-column-is : BodyColumn sc s t p m i bd c n
-  unfolding slope
-  body-column-is =
-      let k = poses-kept s2 t 0 (0 + n * 6) p m (omega arith) (col .kept) in
-      record {
-        count = n-is;
-        size = col .kept .size ∙ down .size ∙ up .size;
-        entries =
-            λ k l.
-            let e : k * 6 + c ≡ 0 + (k * 6 + c) = omega arith in
-            ap (λ (w : ℕ). getD t w nan) e ∙ col .entries k l ∙ (λ z. slopeOf (plus-at k l z) (minus-at k l z) (step-at z));
-        others =
-            λ k d l f g.
-            let e : k * 6 + d ≡ 0 + (k * 6 + d) = omega arith in
-            ap (λ (w : ℕ). getD t w nan) e ∙ col .others k d l f g ∙ ap (λ (w : ℕ). getD s2 w nan) (sym e) ∙ before (k * 6 + d) (let w = in-rows k d 6 n l f in omega arith);
-        poses = λ w. ap (λ (v : List (Pose Float)). set v i w) k ∙ down .poses w ∙ up .poses w;
-      }
-
--- ---- all six columns
-
--- the first c columns are written
-pub record BodyColumns (sc : Scene) (s t : List Float) (p m i : ℕ) (b : Body) (c : ℕ) : Type 0 where
+-- the poses of the first e unknowns stand
+pub record Moving (b : Body) (s t : List Float) (e : ℕ) : Type 0 where
   pub size : length t ≡ length s
-  pub entries : (k d : ℕ) → k < length (rowsOn sc i (posesIn s p m)) → d < c → getD t (k * 6 + d) nan ≡ slope (movedRows sc (posesIn s p m) i b) (zeros 6) k d
-  pub poses : (w : Pose Float) → set (posesIn t p m) i w ≡ set (posesIn s p m) i w
+  pub ahead : (d : ℕ) → d < e → poseIn t (12 * d) ≡ shifted b (set (zeros 6) d (add binary64 zero64 (stepOf zero64)))
+  pub behind : (d : ℕ) → d < e → poseIn t (72 + 12 * d) ≡ shifted b (set (zeros 6) d (sub binary64 zero64 (stepOf zero64)))
 
-pub body-columns-start : (sc : Scene) (s : List Float) (p m i : ℕ) (b : Body) → BodyColumns sc s s p m i b 0
-body-columns-start sc s p m i b = record { size = refl; entries = λ k d h l. absurd (not-suc-le-zero l); poses = λ w. refl }
+pub moving-start : (b : Body) (s : List Float) → Moving b s s 0
+moving-start b s = record { size = refl; ahead = λ d h. absurd (not-suc-le-zero h); behind = λ d h. absurd (not-suc-le-zero h) }
 
-pub body-columns-step : (sc : Scene) (s t u : List Float) (p m i : ℕ) (b : Body) (c rows : ℕ) → c < 6 → BodyColumns sc s t p m i b c → BodyColumn sc t u p m i b c rows
-    → BodyColumns sc s u p m i b (c + 1)
-body-columns-step sc s t u p m i b c rows h g y =
-    record { size = y .size ∙ g .size; entries = entries; poses = λ w. y .poses w ∙ g .poses w }
-  where
-    entries : (k d : ℕ) → k < length (rowsOn sc i (posesIn s p m)) → d < c + 1 → getD u (k * 6 + d) nan ≡ slope (movedRows sc (posesIn s p m) i b) (zeros 6) k d
-    entries k d l w =
-        let n : rows ≡ length (rowsOn sc i (posesIn s p m)) = y .count ∙ on-alike sc i (posesIn t p m) (posesIn s p m) in
-        let v : k < rows = rw n l in
-        elim (eq-or-lt-of-le (le-of-suc-le-suc (rw add-one at w))) [
-          | inl e ↦
-              ap (λ (x : ℕ). getD u (k * 6 + x) nan) e ∙ y .entries k v
-              ∙ ap (λ (f : List Float → List Float). slope f (zeros 6) k c) (moved-alike sc i b (posesIn s p m) (posesIn t p m) (g .poses))
-              ∙ ap (slope (movedRows sc (posesIn s p m) i b) (zeros 6) k) (sym e)
-          | inr e ↦ y .others k d v (omega arith) (λ x. absurd (omega arith)) ∙ g .entries k d l e
-        ]
+-- a pose that stands before the one that is put, and one that stands after it
+pose-before : (s t : List Float) (o q : ℕ) (w : List Float) → q + 12 ≤ o → Put s t o 12 w → poseIn t q ≡ poseIn s q
+pose-before s t o q w h y = pose-same s t q (λ k a b. kept-at-below s t o (o + 12) k nan (omega arith) (y .kept))
 
-pub body-columns-end : (sc : Scene) (s t : List Float) (p m i : ℕ) (b : Body) (c rows : ℕ) → c ≡ 6 → rows ≡ length (rowsOn sc i (posesIn s p m)) → rows * 6 ≤ length s
-    → BodyColumns sc s t p m i b c → BodySlopes sc s t p m i b rows
-unfolding jacobian
-body-columns-end sc s t p m i b c rows e n l g =
-    let z = g .size in
+pose-after : (s t : List Float) (o q : ℕ) (w : List Float) → o + 12 ≤ q → Put s t o 12 w → poseIn t q ≡ poseIn s q
+pose-after s t o q w h y = pose-same s t q (λ k a b. kept-at-above s t o (o + 12) k nan (omega arith) (y .kept))
+
+pub moving-step : (b : Body) (s t u v : List Float) (e : ℕ) (h : Float) → e < 6 → h ≡ stepOf zero64 → Moving b s t e
+    → Put t u (12 * e) 12 (poseDoubles (shifted b (set (zeros 6) e (add binary64 zero64 h))))
+    → Put u v (72 + 12 * e) 12 (poseDoubles (shifted b (set (zeros 6) e (sub binary64 zero64 h))))
+    → Moving b s v (e + 1)
+moving-step b s t u v e h l f g y z =
     record {
-      count = n;
-      size = g .size;
-      holds =
-          table-ext (slope (movedRows sc (posesIn s p m) i b) (zeros 6)) 6 rows (part t 0 (rows * 6)) (part-length t 0 (rows * 6) (omega arith))
-          (λ k d u v.
-          let q : 0 + (k * 6 + d) ≡ k * 6 + d = omega arith in
-          part-at t 0 (rows * 6) (k * 6 + d) nan (in-rows k d 6 rows u v) ∙ ap (λ (w : ℕ). getD t w nan) q ∙ g .entries k d (rw (← n) u) (rw e v))
-          ∙ ap (λ (q : ℕ). tableOf (slope (movedRows sc (posesIn s p m) i b) (zeros 6)) q rows) (sym (length-listOf (λ i. zero64) 6));
-      poses = g .poses;
+      size = z .kept .size ∙ y .kept .size ∙ g .size;
+      ahead =
+          one-more (λ d. poseIn v (12 * d) ≡ shifted b (set (zeros 6) d (add binary64 zero64 (stepOf zero64)))) e
+          (λ d a. pose-before u v (72 + 12 * e) (12 * d) _ (omega arith) z ∙ pose-before t u (12 * e) (12 * d) _ (omega arith) y ∙ g .ahead d a)
+          (pose-before u v (72 + 12 * e) (12 * e) _ (omega arith) z ∙ pose-put t u (12 * e) _ y ∙ ap (λ (w : Float). shifted b (set (zeros 6) e (add binary64 zero64 w))) f);
+      behind =
+          one-more (λ d. poseIn v (72 + 12 * d) ≡ shifted b (set (zeros 6) d (sub binary64 zero64 (stepOf zero64)))) e
+          (λ d a. pose-before u v (72 + 12 * e) (72 + 12 * d) _ (omega arith) z ∙ pose-after t u (12 * e) (72 + 12 * d) _ (omega arith) y ∙ g .behind d a)
+          (pose-put u v (72 + 12 * e) _ z ∙ ap (λ (w : Float). shifted b (set (zeros 6) e (sub binary64 zero64 w))) f);
     }
+
+pub moving-end : (b : Body) (s t : List Float) (e : ℕ) → e ≡ 6 → Moving b s t e → MovedPoses b s t
+moving-end b s t e h g = record { size = g .size; ahead = λ d l. g .ahead d (rw h l); behind = λ d l. g .behind d (rw h l) }
+
+-- ---- the slopes are those of the body's rows as a function of its six unknowns
+
+-- one of n unknowns that are 0, a step ahead and a step behind
+module _ (n e : ℕ) (h : e < n) where
+  zero-at : zero64 ≡ getD (zeros n) e nan
+  zero-at = sym (getD-listOf (λ i. zero64) n e nan h)
+
+  pub zero-step : stepOf zero64 ≡ stepOf (getD (zeros n) e nan)
+  zero-step = ap stepOf zero-at
+
+  pub zero-ahead : set (zeros n) e (add binary64 zero64 (stepOf zero64)) ≡ ahead (zeros n) e (stepOf (getD (zeros n) e nan))
+  zero-ahead = λ z. set (zeros n) e (add binary64 (zero-at z) (zero-step z))
+
+  pub zero-behind : set (zeros n) e (sub binary64 zero64 (stepOf zero64)) ≡ behind (zeros n) e (stepOf (getD (zeros n) e nan))
+  zero-behind = λ z. set (zeros n) e (sub binary64 (zero-at z) (zero-step z))
+
+pub step-at : (e : ℕ) → e < 6 → getD sixSteps e nan ≡ stepOf zero64
+step-at e h = getD-listOf (λ e. stepOf zero64) 6 e nan h
+
+moved-slope-is : (sc : Scene) (poses : List (Pose Float)) (i : ℕ) (b : Body) (s moved : List Float) (k e : ℕ) → e < 6 → MovedPoses b s moved
+    → movedSlope (rowsOn sc i) poses i moved sixSteps k e ≡ slope (movedRows sc poses i b) (zeros 6) k e
+unfolding slope withBody
+moved-slope-is sc poses i b s moved k e h y =
+    let a = y .ahead e h ∙ ap (shifted b) (zero-ahead 6 e h) in
+    let d = y .behind e h ∙ ap (shifted b) (zero-behind 6 e h) in
+    let l = step-at e h ∙ zero-step 6 e h in
+    λ z. slopeOf (getD (rowsOn sc i (set poses i (a z))) k nan) (getD (rowsOn sc i (set poses i (d z))) k nan) (l z)
+
+pub body-slopes-is : (sc : Scene) (s t moved₀ moved steps : List Float) (p m i : ℕ) (b b' : Body) (rows : ℕ) → b ≡ b' → steps ≡ sixSteps
+    → length (rowsOn sc i (posesIn s p m)) * 6 ≤ p → p ≤ length s → MovedPoses b moved₀ moved → SlopesOn sc s t moved steps p m i rows
+    → BodySlopes sc s t p m i b' rows
+unfolding jacobian
+body-slopes-is sc s t moved₀ moved steps p m i b b' rows e q h l y g =
+    let z = g .block .size in
+    let n = ap (λ (w : ℕ). w * 6) (g .count) in
+    let f = movedRows sc (posesIn s p m) i b in
+    subst (λ (w : Body). BodySlopes sc s t p m i w rows) e
+    (record {
+      count = g .count;
+      size = g .block .size;
+      holds =
+          table-ext (slope f (zeros 6)) 6 rows (part t 0 (rows * 6)) (part-length t 0 (rows * 6) (omega arith))
+          (λ k d u v.
+          part-at t 0 (rows * 6) (k * 6 + d) nan (in-rows k d 6 rows u v) ∙ g .block .entries k d u v
+          ∙ ap (λ (w : List Float). movedSlope (rowsOn sc i) (posesIn s p m) i moved w k d) q
+          ∙ moved-slope-is sc (posesIn s p m) i b moved₀ moved k d v y)
+          ∙ ap (λ (q : ℕ). tableOf (slope f (zeros 6)) q rows) (sym (length-listOf (λ i. zero64) 6));
+      poses = block-poses s t 0 6 rows 6 p m _ (omega arith) (omega arith) (g .block);
+    })
 
 -- ---- the six by six
 
@@ -385,32 +406,19 @@ pub six-rows : (f : ℕ → ℕ → Float) (r0 r1 r2 r3 r4 r5 : List Float) → 
 unfolding flatTo tableOf listOf
 six-rows f r0 r1 r2 r3 r4 r5 e0 e1 e2 e3 e4 e5 = λ z. flat 6 (e0 z ∷ e1 z ∷ e2 z ∷ e3 z ∷ e4 z ∷ e5 z ∷ [])
 
--- a body put back
-put-back : (bodies : List Body) (i : ℕ) (b : Body) (rest : List Body) → drop i bodies ≡ b ∷ rest
-    → set (map (λ (c : Body). poseOfFrame (c .frame)) bodies) i (poseOfFrame (b .frame)) ≡ map (λ (c : Body). poseOfFrame (c .frame)) bodies
-put-back [] i b rest e = refl
-put-back (d ∷ bodies) zero b rest e =
-    let w : b ≡ d = cc in
-    ap (λ (v : Body). poseOfFrame (v .frame) ∷ map (λ (c : Body). poseOfFrame (c .frame)) bodies) w
-put-back (d ∷ bodies) (suc i) b rest e = ap (λ (l : List (Pose Float)). poseOfFrame (d .frame) ∷ l) (put-back bodies i b rest e)
-
-pub body-square-is : (sheet : List ℕ) (c : SceneStruct) (s t u : List Float) (p i rows : ℕ) (a : List (List Float)) → i < c .m → rows * 6 ≤ p → posesIn s p (c .m) ≡ starts (sceneOf sheet c)
-    → BodySlopes (sceneOf sheet c) s t p (c .m) i (bodyAt sheet (c .bodies + 136 * i)) rows
-    → Put t u (p + 12 * i) 12 (poseDoubles (poseOfFrame (bodyAt sheet (c .bodies + 136 * i) .frame))) → flat 6 a ≡ squareOf u rows 6
-    → BodySquare (sceneOf sheet c) s u p (c .m) i (bodyAt sheet (c .bodies + 136 * i)) a
-body-square-is sheet c s t u p i rows a h l e y z q =
+pub body-square-is : (sheet : List ℕ) (c : SceneStruct) (s t : List Float) (p i rows : ℕ) (a : List (List Float)) → posesIn s p (c .m) ≡ starts (sceneOf sheet c)
+    → BodySlopes (sceneOf sheet c) s t p (c .m) i (bodyAt sheet (c .bodies + 136 * i)) rows → flat 6 a ≡ squareOf t rows 6
+    → BodySquare (sceneOf sheet c) s t p (c .m) i (bodyAt sheet (c .bodies + 136 * i)) a
+body-square-is sheet c s t p i rows a e y q =
     let sc = sceneOf sheet c in
     let b = bodyAt sheet (c .bodies + 136 * i) in
     let n : rows ≡ length (bodyRows sc i b (zeros 6))
     = y .count ∙ on-alike sc i (posesIn s p (c .m)) (withBody (starts sc) i b (halfSize (b .size)) (zeros 6)) in
-    let j : part u 0 (rows * 6) ≡ jacobian (bodyRows sc i b) (zeros 6) rows
-    = kept-part-below t u (p + 12 * i) (p + 12 * i + 12) 0 (rows * 6) (omega arith) (z .kept) ∙ y .holds
-    ∙ ap (λ (w : List (Pose Float)). jacobian (movedRows sc w i b) (zeros 6) rows) e in
+    let j : part t 0 (rows * 6) ≡ jacobian (bodyRows sc i b) (zeros 6) rows
+    = y .holds ∙ ap (λ (w : List (Pose Float)). jacobian (movedRows sc w i b) (zeros 6) rows) e in
     record {
       square =
-          q ∙ square-part u rows ∙ ap (λ (w : List Float). squareOf w rows 6) j ∙ ap (λ (w : ℕ). squareOf (jacobian (bodyRows sc i b) (zeros 6) w) w 6) n;
-      size = z .kept .size ∙ y .size;
-      poses =
-          poses-put t u p (c .m) i (poseOfFrame (b .frame)) h z ∙ y .poses (poseOfFrame (b .frame)) ∙ ap (λ (w : List (Pose Float)). set w i (poseOfFrame (b .frame))) e
-          ∙ put-back (sc .bodies) i b _ (bodies-next sheet c i h);
+          q ∙ square-part t rows ∙ ap (λ (w : List Float). squareOf w rows 6) j ∙ ap (λ (w : ℕ). squareOf (jacobian (bodyRows sc i b) (zeros 6) w) w 6) n;
+      size = y .size;
+      poses = y .poses ∙ e;
     }

@@ -1,2 +1,3 @@
 pub mod BodyLaws
 pub mod BodySlopeLaws
+pub mod SquareLaws

@@ -1,4 +1,5 @@
 pub mod Dof
+pub mod Square
 pub mod Layout
 pub mod BodyFreedom
 pub mod BodySlopes

@@ -1,3 +1,4 @@
 pub mod ValueLaws
+pub mod ColumnLaws
 pub mod TotalLaws
 pub mod DofLaws

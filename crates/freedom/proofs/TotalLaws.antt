@@ -1,5 +1,4 @@
--- The whole assembly, step by step: the scaled unknowns, the slopes of any function column by column, their square row by row, the rank by the values, the free bodies that no relation
--- names. Assumes nothing.
+-- The whole assembly, step by step: the scaled unknowns, the square of the slopes row by row, the rank by the values, the free bodies that no relation names. Assumes nothing.
 use mathlib.Core.Path.{_≡_, refl, sym, ap, subst, _∙_}
 use mathlib.Core.Bool.{Bool, true, false, not, _&&_, _||_, cond}
 use mathlib.Core.Logic.{inl, inr}
@@ -11,33 +10,31 @@ use native.Mathlib.Numerals.{add-one}
 use native.Mathlib.Nat.{not-suc-le-zero, le-of-suc-le-suc, eq-or-lt-of-le, zero-add, add-zero, mul-le-mul}
 use borrow.Author.Tests.{eq-eqb, ne-eqb}
 use lib.Dec.{eqb}
-use lib.ListN.{length, getD, set, take, drop, length-set, length-drop}
-use lib.Seq.{getD-set-same, getD-set-other, set-set, take-length, take-suc-set, drop-set-add, drop-cons}
-use lib.Ieee.{Float, nan, binary64, add, sub, mul, div, neg, lt, le}
+use lib.ListN.{length, getD, set, take, drop, length-drop}
+use lib.Seq.{take-length, take-suc-set, drop-set-add, drop-cons}
+use lib.Ieee.{Float, nan, binary64, div, lt, le}
 use Rattle.numbers.specs.Double.{zero64, fmax}
-use Rattle.numbers.specs.Ops.{doubles}
-use Rattle.numbers.specs.Sum.{sumFrom}
 use Rattle.arcs.specs.Root.{root}
 use Rattle.eigen.specs.Eigen.{Eigen, symEigen}
-use Rattle.least_squares.specs.Lm.{listOf, tableOf, stepOf, slopeOf, ahead, behind, slope, jacobian}
-use Rattle.least_squares.specs.LmPosts.{Copied}
+use Rattle.least_squares.specs.Lm.{listOf, slope, jacobian}
 use Rattle.least_squares.specs.Memory.{part, Kept}
 use Rattle.relations.specs.Model.{Body, Rel}
 use Rattle.records.specs.Record.{bodyAt}
 use Rattle.scene.specs.Scene.{sceneIn}
-use Rattle.scene.specs.Scene.{firstUnknown, sceneOf, Laid, Put, RowsAt, Column}
-use Rattle.scene.specs.Solve.{Scene, moves, layoutFrom, layout, unknowns, rowsOf, halfSize}
+use Rattle.scene.specs.Scene.{firstUnknown, sceneOf, Laid, Put}
+use Rattle.scene.specs.Solve.{moves, layoutFrom, layout, unknowns, halfSize}
 use Rattle.body_freedom.specs.Dof.{columnsTimes, squareOf, largestValue, scaleThree, scaledFrom, scaledRows, stiffCount, rankRel, unnamedFrom, totalFreedom, zeros, top}
 use Rattle.scene.specs.declared.scene.Scene.{Scene as SceneStruct}
-use Rattle.least_squares.proofs.MemoryLaws.{part-length, part-at, part-set, kept-refl, kept-set, kept-trans, kept-wider, kept-at-below, kept-at-above, kept-part-below, put-tail, tail-part, part-same}
-use Rattle.least_squares.proofs.TableLaws.{in-rows, table-ext, sum-same, getD-listOf}
+use Rattle.least_squares.proofs.MemoryLaws.{part-length, part-at, part-set, kept-refl, kept-set, kept-trans, kept-wider, kept-at-below, kept-part-below, put-tail, tail-part}
+use Rattle.least_squares.proofs.TableLaws.{table-ext, getD-listOf}
 use Rattle.scene.proofs.SceneLaws.{next-layout, length-bodies, bodies-next, layout-next, drop-whole}
 use Rattle.least_squares.proofs.LmLaws.{row-step, row-fits, entry-at}
-use Rattle.slopes.proofs.SlopeLaws.{lt-or-ge}
+use Rattle.least_squares.specs.Filled.{FiniteAt}
+use Rattle.body_freedom.proofs.SquareLaws.{times-part, slopes-finite}
 use borrow.Rule.Slice.PartMut.{putMid}
 use Rattle.freedom.specs.Values.{Values}
 use Rattle.freedom.specs.Freed.{need}
-use Rattle.freedom.specs.Total.{totalParts, TotalApart, scaledBy, RowsBy, SlopeColumnBy, SlopesBy, SquareRow, largestOf, stiffOne, stiffOf, rankOf, unnamedOne}
+use Rattle.freedom.specs.Total.{totalParts, TotalApart, scaledBy, SlopesBy, SquareRow, largestOf, stiffOne, stiffOf, rankOf, unnamedOne}
 use Rattle.freedom.specs.declared.total.TotalParts.{TotalParts as TotalPartsStruct}
 
 -- ---- where the parts stand
@@ -48,14 +45,11 @@ few-entries c h l = (mul-le-mul h l, mul-le-mul l l)
 
 -- each part from where the last ended: no part reaches into the next
 pub total-apart : (c : SceneStruct) (p : TotalPartsStruct) (size : ℕ) → p ≡ totalParts c → need c ≤ size → TotalApart c p size
-total-apart c p size e h =
-    rw e
-    (record { x = omega arith; slopes = omega arith; next = omega arith; scaled = omega arith; ahead = omega arith; behind = omega arith; poses = omega arith })
+total-apart c p size e h = rw e (record { x = omega arith; slopes = omega arith; poses = omega arith })
 
 -- the same in a scratch of the same size
 pub still-apart : (c : SceneStruct) (p : TotalPartsStruct) (size size' : ℕ) → size' ≡ size → TotalApart c p size → TotalApart c p size'
-still-apart c p size size' e h =
-    record { x = h .x; slopes = h .slopes; next = h .next; scaled = h .scaled; ahead = h .ahead; behind = h .behind; poses = omega arith }
+still-apart c p size size' e h = record { x = h .x; slopes = h .slopes; poses = omega arith }
 
 -- what is lent from a on is the rest
 pub rest-lent : (a : ℕ) (s : List Float) → take (length s - a) (drop a s) ≡ drop a s
@@ -131,140 +125,6 @@ unfolding scaledFrom
 scaled-done sheet c x i e =
     ap (λ (l : List Body). scaledFrom x l (drop i (layout (sceneOf sheet c)))) (drop-whole (sceneOf sheet c .bodies) i (length-bodies sheet c ∙ sym e))
 
-pub scaled-rows-is : (sc : Scene) (s s1 s2 t : List Float) (x n z r rows p : ℕ) → z + n ≤ r → Copied s s1 x z n
-    → Put s1 s2 z n (scaledFrom (part s1 z n) (sc .bodies) (layout sc)) → RowsAt sc s2 t z n r rows p → RowsBy (scaledRows sc) s t x n z r rows
-scaled-rows-is sc s s1 s2 t x n z r rows p h a b d =
-    record {
-      size = d .size ∙ b .kept .size ∙ a .kept .size;
-      holds = d .holds ∙ ap (rowsOf sc) (b .holds ∙ ap (λ (w : List Float). scaledFrom w (sc .bodies) (layout sc)) (a .copy));
-      below = λ q l. d .below q (omega arith) ∙ kept-at-below s1 s2 z (z + n) q nan l (b .kept) ∙ kept-at-below s s1 z (z + n) q nan l (a .kept);
-      between = λ q l m. d .below q m ∙ kept-at-above s1 s2 z (z + n) q nan l (b .kept) ∙ kept-at-above s s1 z (z + n) q nan l (a .kept);
-    }
-
--- ---- one column of the slopes
-
-module _ (f : List Float → List Float) (s s2 s4 t : List Float) (j n rows x y z a b c : ℕ) (v h : Float)
-    (c-in : c < n) (j-y : j + rows * n ≤ y) (y-z : y + n ≤ z) (z-a : z + n ≤ a) (a-b : a + rows ≤ b) (b-s : b + rows ≤ length s)
-    (same : part s y n ≡ part s x n) (v-is : v ≡ getD s (x + c) nan) (h-is : h ≡ stepOf v)
-    (up : RowsBy f (set s (y + c) (add binary64 v h)) s2 y n z a rows)
-    (down : RowsBy f (set s2 (y + c) (sub binary64 v h)) s4 y n z b rows)
-    (col : Column (set s4 (y + c) v) t j n rows c (λ i. slopeOf (getD (set s4 (y + c) v) (a + i) nan) (getD (set s4 (y + c) v) (b + i) nan) h)) where
-  size2 : length s2 ≡ length s
-  size2 = up .size ∙ length-set s (y + c) (add binary64 v h)
-
-  size4 : length s4 ≡ length s
-  size4 = down .size ∙ length-set s2 (y + c) (sub binary64 v h) ∙ size2
-
-  v-at : getD (part s x n) c nan ≡ v
-  v-at = part-at s x n c nan c-in ∙ sym v-is
-
-  ahead-y : part (set s (y + c) (add binary64 v h)) y n ≡ set (part s x n) c (add binary64 v h)
-  ahead-y = part-set s y n c (add binary64 v h) c-in ∙ ap (λ (l : List Float). set l c (add binary64 v h)) same
-
-  ahead-is : part s2 a rows ≡ f (ahead (part s x n) c (stepOf (getD (part s x n) c nan)))
-  ahead-is =
-      up .holds ∙ ap f ahead-y ∙ (λ i. f (set (part s x n) c (add binary64 (sym v-at i) ((h-is ∙ ap stepOf (sym v-at)) i))))
-
-  behind-y : part (set s2 (y + c) (sub binary64 v h)) y n ≡ set (part s x n) c (sub binary64 v h)
-  behind-y =
-      part-set s2 y n c (sub binary64 v h) c-in
-      ∙ ap (λ (l : List Float). set l c (sub binary64 v h)) (part-same (set s (y + c) (add binary64 v h)) s2 y n (up .size) (λ i l. up .below (y + i) (omega arith)) ∙ ahead-y)
-      ∙ set-set (part s x n) c (add binary64 v h) (sub binary64 v h)
-
-  behind-is : part s4 b rows ≡ f (behind (part s x n) c (stepOf (getD (part s x n) c nan)))
-  behind-is =
-      down .holds ∙ ap f behind-y ∙ (λ i. f (set (part s x n) c (sub binary64 (sym v-at i) ((h-is ∙ ap stepOf (sym v-at)) i))))
-
-  plus-at : (i : ℕ) → i < rows → getD (set s4 (y + c) v) (a + i) nan ≡ getD (f (ahead (part s x n) c (stepOf (getD (part s x n) c nan)))) i nan
-  plus-at i l =
-      getD-set-other s4 (y + c) (a + i) v nan (λ e. absurd (omega arith)) ∙ down .between (a + i) (omega arith) (omega arith)
-      ∙ getD-set-other s2 (y + c) (a + i) (sub binary64 v h) nan (λ e. absurd (omega arith))
-      ∙ sym (part-at s2 a rows i nan l)
-      ∙ ap (λ (w : List Float). getD w i nan) ahead-is
-
-  minus-at : (i : ℕ) → i < rows → getD (set s4 (y + c) v) (b + i) nan ≡ getD (f (behind (part s x n) c (stepOf (getD (part s x n) c nan)))) i nan
-  minus-at i l =
-      getD-set-other s4 (y + c) (b + i) v nan (λ e. absurd (omega arith)) ∙ sym (part-at s4 b rows i nan l) ∙ ap (λ (w : List Float). getD w i nan) behind-is
-
-  -- below z, all is as it was before the column is written
-  unmoved : (q : ℕ) → q < z → (q ≡ y + c → ⊥) → getD (set s4 (y + c) v) q nan ≡ getD s q nan
-  unmoved q l e =
-      getD-set-other s4 (y + c) q v nan e ∙ down .below q l ∙ getD-set-other s2 (y + c) q (sub binary64 v h) nan e ∙ up .below q l
-      ∙ getD-set-other s (y + c) q (add binary64 v h) nan e
-
-  restored : getD (set s4 (y + c) v) (y + c) nan ≡ getD s (y + c) nan
-  restored =
-      getD-set-same s4 (y + c) v nan (let z = size4 in omega arith) ∙ sym v-at ∙ ap (λ (w : List Float). getD w c nan) (sym same) ∙ part-at s y n c nan c-in
-
-  before : (q : ℕ) → q < z → getD (set s4 (y + c) v) q nan ≡ getD s q nan
-  before q l =
-      elim (lt-or-ge q (y + c)) [
-        | inl m ↦ unmoved q l (λ e. absurd (omega arith))
-        | inr m ↦
-            elim (eq-or-lt-of-le m) [
-              | inl e ↦ ap (λ (w : ℕ). getD (set s4 (y + c) v) w nan) (sym e) ∙ restored ∙ ap (λ (w : ℕ). getD s w nan) e
-              | inr k ↦ unmoved q l (λ e. absurd (omega arith))
-            ]
-      ]
-
-  pub slope-column-is : SlopeColumnBy f s t j n rows x z c
-  unfolding slope
-  slope-column-is =
-      record {
-        size = col .kept .size ∙ length-set s4 (y + c) v ∙ size4;
-        entries = λ i l. col .entries i l ∙ (λ w. slopeOf (plus-at i l w) (minus-at i l w) ((h-is ∙ ap stepOf (sym v-at)) w));
-        others = λ i d l k e. col .others i d l k e ∙ before (j + (i * n + d)) (let w = in-rows i d n rows l k in omega arith);
-        below = λ q l. kept-at-below (set s4 (y + c) v) t j (j + rows * n) q nan l (col .kept) ∙ before q (omega arith);
-        between = λ q l k. kept-at-above (set s4 (y + c) v) t j (j + rows * n) q nan l (col .kept) ∙ before q k;
-      }
-
--- ---- all columns
-
--- the first c columns are written
-pub record Columns (f : List Float → List Float) (s t : List Float) (j n rows x z c : ℕ) : Type 0 where
-  pub size : length t ≡ length s
-  pub entries : (i d : ℕ) → i < rows → d < c → getD t (j + (i * n + d)) nan ≡ slope f (part s x n) i d
-  pub below : (q : ℕ) → q < j → getD t q nan ≡ getD s q nan
-  pub between : (q : ℕ) → j + rows * n ≤ q → q < z → getD t q nan ≡ getD s q nan
-
-pub columns-start : (f : List Float → List Float) (s : List Float) (j n rows x z : ℕ) → Columns f s s j n rows x z 0
-columns-start f s j n rows x z = record { size = refl; entries = λ i d h l. absurd (not-suc-le-zero l); below = λ q h. refl; between = λ q h l. refl }
-
--- the unknowns below the slopes, and their copy behind them, are as they were
-pub columns-below : (f : List Float → List Float) (s t : List Float) (j n rows x z c : ℕ) → x + n ≤ j → Columns f s t j n rows x z c → part t x n ≡ part s x n
-columns-below f s t j n rows x z c h g = part-same s t x n (g .size) (λ i m. g .below (x + i) (omega arith))
-
-pub columns-part : (f : List Float → List Float) (s t : List Float) (j n rows x z c o : ℕ) → j + rows * n ≤ o → o + n ≤ z → Columns f s t j n rows x z c → part t o n ≡ part s o n
-columns-part f s t j n rows x z c o h l g = part-same s t o n (g .size) (λ i m. g .between (o + i) (omega arith) (omega arith))
-
-pub columns-step : (f : List Float → List Float) (s t u : List Float) (j n rows x z c : ℕ) → c < n → x + n ≤ j → Columns f s t j n rows x z c
-    → SlopeColumnBy f t u j n rows x z c → Columns f s u j n rows x z (c + 1)
-columns-step f s t u j n rows x z c h l g y =
-    record { size = y .size ∙ g .size; entries = entries; below = λ q k. y .below q k ∙ g .below q k; between = λ q k w. y .between q k w ∙ g .between q k w }
-  where
-    entries : (i d : ℕ) → i < rows → d < c + 1 → getD u (j + (i * n + d)) nan ≡ slope f (part s x n) i d
-    entries i d k w =
-        elim (eq-or-lt-of-le (le-of-suc-le-suc (rw add-one at w))) [
-          | inl e ↦
-              ap (λ (v : ℕ). getD u (j + (i * n + v)) nan) e ∙ y .entries i k ∙ ap (λ (v : List Float). slope f v i c) (columns-below f s t j n rows x z c l g)
-              ∙ ap (slope f (part s x n) i) (sym e)
-          | inr e ↦ y .others i d k (omega arith) (λ q. absurd (omega arith)) ∙ g .entries i d k e
-        ]
-
-pub columns-end : (f : List Float → List Float) (s t : List Float) (j n rows x z c : ℕ) → c ≡ n → j + rows * n ≤ length s → x + n ≤ length s → Columns f s t j n rows x z c
-    → SlopesBy f s t j n rows x
-unfolding jacobian
-columns-end f s t j n rows x z c e h l g =
-    let k = g .size in
-    let w = part-length s x n l in
-    record {
-      size = g .size;
-      holds =
-          table-ext (slope f (part s x n)) n rows (part t j (rows * n)) (part-length t j (rows * n) (omega arith))
-          (λ i d u v. part-at t j (rows * n) (i * n + d) nan (in-rows i d n rows u v) ∙ g .entries i d u (rw e v))
-          ∙ ap (λ (q : ℕ). tableOf (slope f (part s x n)) q rows) (sym w);
-    }
-
 -- ---- zeros
 
 pub clear-step : (o s : List Float) (at i k : ℕ) → at + k ≤ length o → i < k → Kept o s at (at + k) → part s at i ≡ zeros i → part (set s (at + i) zero64) at (i + 1) ≡ zeros (i + 1)
@@ -276,33 +136,19 @@ clear-step o s at i k h l r e =
 
 -- ---- the square
 
-abbrev pub productsIn : List Float → ℕ → ℕ → ℕ → ℕ → Float
-productsIn s n i j r = mul binary64 (getD s (r * n + i) nan) (getD s (r * n + j) nan)
-
-pub columns-times-is : (s : List Float) (rows n i j r : ℕ) (t : Float) → i < n → j < n → r ≡ rows → t ≡ sumFrom doubles (neg zero64) (productsIn s n i j) r
-    → t ≡ columnsTimes (part s 0 (rows * n)) rows n i j
-unfolding columnsTimes
-columns-times-is s rows n i j r t h l e f =
-    f ∙ ap (sumFrom doubles (neg zero64) (productsIn s n i j)) e
-    ∙ sum-same (neg zero64) (productsIn s n i j) (λ q. mul binary64 (getD (part s 0 (rows * n)) (q * n + i) nan) (getD (part s 0 (rows * n)) (q * n + j) nan)) rows
-    (λ q m. λ k. mul binary64 (at q i m h k) (at q j m l k))
-  where
-    at : (q d : ℕ) → q < rows → d < n → getD s (q * n + d) nan ≡ getD (part s 0 (rows * n)) (q * n + d) nan
-    at q d m w = sym (part-at s 0 (rows * n) (q * n + d) nan (in-rows q d n rows m w) ∙ ap (λ (x : ℕ). getD s x nan) (zero-add (q * n + d)))
-
 -- the slopes are kept while their square is formed
 same-products : (s t : List Float) (rows n lo hi i k : ℕ) → rows * n ≤ lo → Kept s t lo hi → columnsTimes (part t 0 (rows * n)) rows n i k ≡ columnsTimes (part s 0 (rows * n)) rows n i k
 same-products s t rows n lo hi i k h r = ap (λ (w : List Float). columnsTimes w rows n i k) (kept-part-below s t lo hi 0 (rows * n) (omega arith) r)
 
 -- one more entry of row i
-pub square-step : (o s : List Float) (rows n at i k : ℕ) (v : Float) → k < n → rows * n ≤ at → at + n ≤ length o → Kept o s at (at + n)
+pub square-step : (o s : List Float) (rows n at i k : ℕ) (v : Float) → i < n → k < n → rows * n ≤ at → at + n ≤ length o → Kept o s at (at + n)
     → ((j : ℕ) → j < k → getD s (at + j) nan ≡ columnsTimes (part o 0 (rows * n)) rows n i j)
-    → v ≡ columnsTimes (part s 0 (rows * n)) rows n i k
+    → v ≡ columnsTimes s rows n i k
     → Kept o (set s (at + k) v) at (at + n) × ((j : ℕ) → j < k + 1 → getD (set s (at + k) v) (at + j) nan ≡ columnsTimes (part o 0 (rows * n)) rows n i j)
-square-step o s rows n at i k v h l m r e q =
+square-step o s rows n at i k v w h l m r e q =
     let z = r .size in (
       kept-set o s at (at + n) (at + k) v (omega arith) (omega arith) r,
-      row-step s at k v (columnsTimes (part o 0 (rows * n)) rows n i) (omega arith) (q ∙ same-products o s rows n at (at + n) i k l r) e,
+      row-step s at k v (columnsTimes (part o 0 (rows * n)) rows n i) (omega arith) (q ∙ times-part s rows n i k w h ∙ same-products o s rows n at (at + n) i k l r) e,
     )
 
 -- the first i rows of the square are those of the slopes that o has
@@ -477,34 +323,39 @@ unnamed-small fixed (some k) = omega arith
 
 -- ---- all
 
--- the unknowns and their copy are zeros
-pub zeros-twice : (s s1 s2 : List Float) (x y n : ℕ) → x + n ≤ y → Put s s1 x n (zeros n) → Put s1 s2 y n (zeros n) → part s2 y n ≡ part s2 x n
-zeros-twice s s1 s2 x y n h a b = b .holds ∙ sym (kept-part-below s1 s2 y (y + n) x n h (b .kept) ∙ a .holds)
-
 -- what slope filling asks, of the whole scratch lent to it
-pub slopes-ready : (c : SceneStruct) (p : TotalPartsStruct) (s s1 s2 : List Float) → TotalApart c p (length s) → Put s s1 0 (c .n) (zeros (c .n)) → Put s1 s2 (p .next) (c .n) (zeros (c .n))
-    → TotalApart c p (length (take (length s2 - 0) (drop 0 s2))) × (part (take (length s2 - 0) (drop 0 s2)) (p .next) (c .n) ≡ part (take (length s2 - 0) (drop 0 s2)) 0 (c .n))
+pub slopes-ready : (c : SceneStruct) (p : TotalPartsStruct) (s s1 s2 : List Float) → TotalApart c p (length s) → Put s s1 0 (c .n) (zeros (c .n))
+    → Put s1 s2 (p .slopes) (c .rows * c .n) (zeros (c .rows * c .n))
+    → let w = take (length s2 - 0) (drop 0 s2) in
+    TotalApart c p (length w) × ((part w 0 (c .n) ≡ zeros (c .n)) × (part w (p .slopes) (c .rows * c .n) ≡ zeros (c .rows * c .n)))
 slopes-ready c p s s1 s2 h a b =
-    subst (λ (w : List Float). TotalApart c p (length w) × (part w (p .next) (c .n) ≡ part w 0 (c .n))) (sym (rest-lent 0 s2))
-    (still-apart c p (length s) (length s2) (b .kept .size ∙ a .kept .size) h, zeros-twice s s1 s2 0 (p .next) (c .n) (omega arith) a b)
+    subst (λ (w : List Float). TotalApart c p (length w) × ((part w 0 (c .n) ≡ zeros (c .n)) × (part w (p .slopes) (c .rows * c .n) ≡ zeros (c .rows * c .n)))) (sym (rest-lent 0 s2)) (
+      still-apart c p (length s) (length s2) (b .kept .size ∙ a .kept .size) h,
+      (kept-part-below s1 s2 (p .slopes) (p .slopes + c .rows * c .n) 0 (c .n) (omega arith) (b .kept) ∙ a .holds, b .holds),
+    )
+
+-- the slopes are what the rank is lent first, and they are finite
+slopes-lent : (f : List Float → List Float) (s q : List Float) (at n rows : ℕ) → SlopesBy f (take (length s - 0) (drop 0 s)) q at n rows 0
+    → part (take (length (putMid 0 (length s - 0) s q) - at) (drop at (putMid 0 (length s - 0) s q))) 0 (rows * n) ≡ jacobian f (part (take (length s - 0) (drop 0 s)) 0 n) rows
+slopes-lent f s q at n rows d =
+    ap (λ (w : List Float). part w 0 (rows * n)) (rest-lent at (putMid 0 (length s - 0) s q)) ∙ ap (λ (w : List Float). part w at (rows * n)) (put-tail 0 s q (omega arith)) ∙ d .holds
+
+pub lent-finite : (f : List Float → List Float) (s q : List Float) (at n rows : ℕ) → rows * n ≤ length (take (length (putMid 0 (length s - 0) s q) - at) (drop at (putMid 0 (length s - 0) s q)))
+    → SlopesBy f (take (length s - 0) (drop 0 s)) q at n rows 0 → FiniteAt (take (length (putMid 0 (length s - 0) s q) - at) (drop at (putMid 0 (length s - 0) s q))) 0 (rows * n)
+lent-finite f s q at n rows h d = slopes-finite f (part (take (length s - 0) (drop 0 s)) 0 n) _ rows n h (slopes-lent f s q at n rows d)
 
 module _ (sheet : List ℕ) (c : SceneStruct) (p : TotalPartsStruct) (s s1 s2 q : List Float) (rank unused : ℕ) (laid : Laid sheet c) (fits : TotalApart c p (length s))
-    (a : Put s s1 0 (c .n) (zeros (c .n))) (b : Put s1 s2 (p .next) (c .n) (zeros (c .n)))
+    (a : Put s s1 0 (c .n) (zeros (c .n))) (b : Put s1 s2 (p .slopes) (c .rows * c .n) (zeros (c .rows * c .n)))
     (d : SlopesBy (scaledRows (sceneOf sheet c)) (take (length s2 - 0) (drop 0 s2)) q (p .slopes) (c .n) (c .rows) 0)
     (r : rank ≡ rankRel (part (take (length (putMid 0 (length s2 - 0) s2 q) - p .slopes) (drop (p .slopes) (putMid 0 (length s2 - 0) s2 q))) 0 (c .rows * c .n)) (c .rows) (c .n))
     (u : unused ≡ unnamedFrom (sceneOf sheet c .rels) 0 (sceneOf sheet c .bodies)) where
   zeros-at : part (take (length s2 - 0) (drop 0 s2)) 0 (c .n) ≡ zeros (c .n)
   zeros-at =
-      ap (λ (w : List Float). part w 0 (c .n)) (rest-lent 0 s2) ∙ kept-part-below s1 s2 (p .next) (p .next + c .n) 0 (c .n) (omega arith) (b .kept) ∙ a .holds
+      ap (λ (w : List Float). part w 0 (c .n)) (rest-lent 0 s2) ∙ kept-part-below s1 s2 (p .slopes) (p .slopes + c .rows * c .n) 0 (c .n) (omega arith) (b .kept) ∙ a .holds
 
-  -- the slopes are what the rank is lent first
-  slopes-lent : part (take (length (putMid 0 (length s2 - 0) s2 q) - p .slopes) (drop (p .slopes) (putMid 0 (length s2 - 0) s2 q))) 0 (c .rows * c .n)
+  lent-zeros : part (take (length (putMid 0 (length s2 - 0) s2 q) - p .slopes) (drop (p .slopes) (putMid 0 (length s2 - 0) s2 q))) 0 (c .rows * c .n)
       ≡ jacobian (scaledRows (sceneOf sheet c)) (zeros (c .n)) (c .rows)
-  slopes-lent =
-      ap (λ (w : List Float). part w 0 (c .rows * c .n)) (rest-lent (p .slopes) (putMid 0 (length s2 - 0) s2 q))
-      ∙ ap (λ (w : List Float). part w (p .slopes) (c .rows * c .n)) (put-tail 0 s2 q (omega arith))
-      ∙ d .holds
-      ∙ ap (λ (w : List Float). jacobian (scaledRows (sceneOf sheet c)) w (c .rows)) zeros-at
+  lent-zeros = slopes-lent _ s2 q (p .slopes) (c .n) (c .rows) d ∙ ap (λ (w : List Float). jacobian (scaledRows (sceneOf sheet c)) w (c .rows)) zeros-at
 
   pub total-is : c .n - min rank (c .n) + unused ≡ totalFreedom (sceneOf sheet c)
   unfolding totalFreedom
@@ -512,5 +363,5 @@ module _ (sheet : List ℕ) (c : SceneStruct) (p : TotalPartsStruct) (s s1 s2 q 
       let sc = sceneOf sheet c in
       let n-is : c .n ≡ unknowns sc = laid .unknown-count in
       let rows-is : c .rows ≡ length (scaledRows sc (zeros (unknowns sc))) = sym (laid .row-count _) in
-      (λ j. c .n - min ((r ∙ ap (λ (w : List Float). rankRel w (c .rows) (c .n)) slopes-lent) j) (c .n) + u j)
+      (λ j. c .n - min ((r ∙ ap (λ (w : List Float). rankRel w (c .rows) (c .n)) lent-zeros) j) (c .n) + u j)
       ∙ (λ j. n-is j - min (rankRel (jacobian (scaledRows sc) (zeros (n-is j)) (rows-is j)) (rows-is j) (n-is j)) (n-is j) + unnamedFrom (sc .rels) 0 (sc .bodies))

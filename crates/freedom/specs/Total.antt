@@ -1,5 +1,4 @@
--- `dof` of solve.rs, the whole assembly: what the functions over the lent scratch promise, s the scratch at entry and t at exit; what a
--- record does not say of t is open. The slopes are of any function f of the unknowns.
+-- `dof` of solve.rs, the whole assembly: what the functions over the lent scratch promise, s the scratch at entry and t at exit; what a record does not say of t is open.
 -- Document 01, "The train of files", item 6. Definitions only.
 use Prim.Native.Nat.{ℕ, _+_, _*_, _≤_, _<_}
 use mathlib.Core.Path.{_≡_}
@@ -13,8 +12,9 @@ use Rattle.arcs.specs.Root.{root}
 use Rattle.vectors.specs.Tol.{DOF-REL}
 use Rattle.least_squares.specs.Lm.{slope, jacobian}
 use Rattle.least_squares.specs.Memory.{part, Kept}
-use Rattle.scene.specs.Solve.{Scene}
-use Rattle.body_freedom.specs.Dof.{columnsTimes, scaleThree, totalFreedom}
+use Rattle.scene.specs.Solve.{Scene, layout, posesAt}
+use Rattle.scene.specs.Scene.{posesIn}
+use Rattle.body_freedom.specs.Dof.{columnsTimes, zeros, scaleThree, scaledFrom, scaledRows, totalFreedom}
 use Rattle.scene.specs.declared.scene.Scene.{Scene as SceneStruct}
 use Rattle.freedom.specs.declared.total.TotalParts.{TotalParts as TotalPartsStruct}
 
@@ -26,52 +26,37 @@ squared c = c .n + c .rows * c .n + c .n * c .n + c .n
 
 -- each part from where the last ended, the unknowns from 0 on
 abbrev pub totalParts : SceneStruct → TotalPartsStruct
-totalParts c =
-    record {
-      slopes = c .n;
-      next = squared c;
-      scaled = squared c + c .n;
-      ahead = squared c + c .n + c .n;
-      behind = squared c + c .n + c .n + c .rows;
-      poses = squared c + c .n + c .n + c .rows + c .rows;
-    }
+totalParts c = record { slopes = c .n; poses = squared c }
 
 -- no part reaches into the next, and all stand within a scratch of this size
 pub record TotalApart (c : SceneStruct) (p : TotalPartsStruct) (size : ℕ) : Type 0 where
   -- the unknowns, from 0 on
   pub x : c .n ≤ p .slopes
   -- the slopes, and directly behind them their square and its eigenvalues
-  pub slopes : p .slopes + (c .rows * c .n + c .n * c .n + c .n) ≤ p .next
-  -- the unknowns with one of them a step ahead or behind, and these with the turning ones scaled
-  pub next : p .next + c .n ≤ p .scaled
-  pub scaled : p .scaled + c .n ≤ p .ahead
-  -- the rows a step ahead, and a step behind
-  pub ahead : p .ahead + c .rows ≤ p .behind
-  pub behind : p .behind + c .rows ≤ p .poses
+  pub slopes : p .slopes + (c .rows * c .n + c .n * c .n + c .n) ≤ p .poses
   -- the poses of all bodies
   pub poses : p .poses + 12 * c .m ≤ size
 
--- ---- rows and slopes
+-- ---- the slopes
 
 -- one body's turning unknowns over half its size l, by its entry of the layout
 unfoldable pub scaledBy : List Float → Float → Option ℕ → List Float
 scaledBy x l none = x
 scaledBy x l (some k) = scaleThree x (k + 3) l
 
--- the rows f of the n unknowns from x on, from place r on; below r nothing has changed but the n places from z on
-pub record RowsBy (f : List Float → List Float) (s t : List Float) (x n z r rows : ℕ) : Type 0 where
-  pub size : length t ≡ length s
-  pub holds : part t r rows ≡ f (part s x n)
-  pub below : (q : ℕ) → q < z → getD t q nan ≡ getD s q nan
-  pub between : (q : ℕ) → z + n ≤ q → q < r → getD t q nan ≡ getD s q nan
+-- the poses are those at unknowns that are all 0, and the columns of the slopes from lo on are +0
+pub record Waiting (sc : Scene) (c : SceneStruct) (p : TotalPartsStruct) (s : List Float) (lo : ℕ) : Type 0 where
+  pub poses : posesIn s (p .poses) (c .m) ≡ posesAt sc (scaledFrom (zeros (c .n)) (sc .bodies) (layout sc))
+  pub clear : (r d : ℕ) → r < c .rows → lo ≤ d → d < c .n → getD s (p .slopes + (r * c .n + d)) nan ≡ zero64
+  pub within : lo ≤ c .n
 
--- column c of the slopes of f at the unknowns from x on, in the matrix at j; below z nothing else has changed. What stands from z on is open: it is scratch.
-pub record SlopeColumnBy (f : List Float → List Float) (s t : List Float) (j n rows x z c : ℕ) : Type 0 where
+-- the columns from lo up to hi are slopes of the scaled rows at unknowns that are all 0; no other place has changed
+pub record ColumnsFrom (sc : Scene) (c : SceneStruct) (p : TotalPartsStruct) (s t : List Float) (lo hi : ℕ) : Type 0 where
   pub size : length t ≡ length s
-  pub entries : (i : ℕ) → i < rows → getD t (j + (i * n + c)) nan ≡ slope f (part s x n) i c
-  pub others : (i d : ℕ) → i < rows → d < n → (d ≡ c → ⊥) → getD t (j + (i * n + d)) nan ≡ getD s (j + (i * n + d)) nan
-  pub below : (q : ℕ) → q < j → getD t q nan ≡ getD s q nan
-  pub between : (q : ℕ) → j + rows * n ≤ q → q < z → getD t q nan ≡ getD s q nan
+  pub entries : (r d : ℕ) → r < c .rows → lo ≤ d → d < hi → getD t (p .slopes + (r * c .n + d)) nan ≡ slope (scaledRows sc) (zeros (c .n)) r d
+  pub others : (q : ℕ) → ((r d : ℕ) → r < c .rows → lo ≤ d → d < hi → q ≡ p .slopes + (r * c .n + d) → ⊥) → getD t q nan ≡ getD s q nan
+  pub order : lo ≤ hi
+  pub within : hi ≤ c .n
 
 -- the slopes of f at the unknowns from x on, from place j on. What else stands in the scratch is open.
 pub record SlopesBy (f : List Float → List Float) (s t : List Float) (j n rows x : ℕ) : Type 0 where

@@ -33,6 +33,7 @@ fn put_body(
     requires { ⌜ (i < scene .m) × (29 * i + 29 ≤ length (now freedoms)) ⌝ }
     requires { ⌜ BodyApart scene parts (length (now s)) ⌝ }
     requires { ⌜ posesIn (now s) (parts .poses) (scene .m) ≡ starts (sceneOf (now sheet) scene) ⌝ }
+    requires { ⌜ scene .rows ≤ 896 ⌝ }
     ensures { λ _. ⌜ spec.BodyFreed (sceneOf (now (sheet .entry)) scene) (now (s .entry)) (now (s .exit)) (parts .poses) (scene .m) i (now (freedoms .entry)) (now (freedoms .exit)) (definitions.freedomOf (sceneOf (now (sheet .entry)) scene) i (format.bodyAt (now (sheet .entry)) (scene .bodies + 136 * i))) ⌝ }
 {
     let body = body_at(sheet, scene.bodies + 136 * i);

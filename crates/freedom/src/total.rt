@@ -1,35 +1,37 @@
 // `dof` of solve.rs, the whole assembly: the rank of the slopes of all rows along all unknowns, over parts of the lent scratch. `specs/Total.antt` has the definitions.
 
 ghost use mathlib.Core.Path.{_≡_};
+ghost use mathlib.Core.Option.{none, some};
 ghost use Prim.Native.Nat.{_+_, _*_, _≤_, _<_};
 ghost use lib.ListN.{length, getD};
 ghost use Rattle.numbers.specs.Double.{zero64};
 ghost use Rattle.body_freedom.specs.Dof as dof;
+ghost use Rattle.least_squares.specs.Filled.{FiniteAt};
 ghost use Rattle.least_squares.specs.Memory.{part};
 ghost use Rattle.records.specs.Record.{bodyAt};
 ghost use Rattle.scene.specs.Scene.{Laid, sceneOf, firstUnknown, Put};
 ghost use Rattle.scene.specs.Solve.{layout, halfSize};
+ghost use Rattle.slopes.specs.AnewSlopes.{given};
 ghost use Rattle.freedom.specs.Freed.{need};
 ghost use Rattle.freedom.specs.Total as spec;
 use crate::values::values;
-use least_squares::lm::copy;
+use body_freedom::body_slopes::moved_poses;
+use body_freedom::body_slopes::six_steps;
+use body_freedom::square::columns_times;
+use least_squares::zeros::filled;
 use records::record;
 use scene::scene::Scene;
 use scene::scene::half_size;
-use scene::scene::rows_at;
-use slopes::slopes::put_column;
-use slopes::slopes::step_of;
+use scene::scene::poses_at;
+use slopes::anew_slopes::clear;
+use slopes::moved::named_columns;
 use vectors::root::sqrt;
 use vectors::tol::DOF_REL;
 
-// Where the parts of the scratch stand. In order, with R rows and n unknowns of m bodies: n unknowns from 0 on, R·n slopes, n² of their square, its n values, n for `next`,
-// n for `scaled`, R for `ahead`, R for `behind`, 12m for `poses`. `TotalApart` says what each is for.
+// Where the parts of the scratch stand. In order, with R rows and n unknowns of m bodies: n unknowns from 0 on, R·n slopes, n² of their square, its n values, 12m for `poses`.
+// `TotalApart` says what each is for.
 struct TotalParts {
     slopes: usize,
-    next: usize,
-    scaled: usize,
-    ahead: usize,
-    behind: usize,
     poses: usize,
 }
 
@@ -42,19 +44,8 @@ fn total_parts(scene: Scene) -> TotalParts
     let rows = scene.rows;
     let square = n + rows * n;
     let values = square + n * n;
-    let next = values + n;
-    let scaled = next + n;
-    let ahead = scaled + n;
-    let behind = ahead + rows;
-    let poses = behind + rows;
-    TotalParts {
-        slopes: n,
-        next,
-        scaled,
-        ahead,
-        behind,
-        poses,
-    }
+    let poses = values + n;
+    TotalParts { slopes: n, poses }
 }
 
 // The three doubles from o on over l.
@@ -107,93 +98,76 @@ fn scale(sheet: &[u8], scene: Scene, s: &mut [f64], z: usize)
     }
 }
 
-// The rows at the unknowns from `next` on, the turning ones scaled, to the places from r on.
-fn scaled_rows(sheet: &[u8], scene: Scene, s: &mut [f64], parts: TotalParts, r: usize)
+// Body i's six columns of the slopes, from column k on.
+fn six_columns(sheet: &[u8], scene: Scene, s: &mut [f64], parts: TotalParts, i: usize, k: usize)
     requires { ⌜ Laid (now sheet) scene ⌝ }
     requires { ⌜ spec.TotalApart scene parts (length (now s)) ⌝ }
-    requires { ⌜ (parts .ahead ≤ r) × (r + scene .rows ≤ parts .poses) ⌝ }
-    ensures { λ _. ⌜ spec.RowsBy (dof.scaledRows (sceneOf (now (sheet .entry)) scene)) (now (s .entry)) (now (s .exit)) (parts .next) (scene .n) (parts .scaled) r (scene .rows) ⌝ }
+    requires { ⌜ (i < scene .m) × (k + 6 ≤ scene .n) ⌝ }
+    requires { ⌜ getD (layout (sceneOf (now sheet) scene)) i none ≡ some k ⌝ }
+    requires { ⌜ spec.Waiting (sceneOf (now sheet) scene) scene parts (now s) k ⌝ }
+    ensures { λ _. ⌜ spec.ColumnsFrom (sceneOf (now (sheet .entry)) scene) scene parts (now (s .entry)) (now (s .exit)) k (k + 6) ⌝ }
 {
-    copy(s, parts.next, parts.scaled, scene.n);
-    scale(sheet, scene, s, parts.scaled);
-    rows_at(sheet, scene, s, parts.scaled, r, parts.poses);
-}
-
-// Column c of the slopes at the unknowns from 0 on. In the copy of the unknowns at `next` the unknown c goes a step ahead and a step behind.
-fn slope_column(sheet: &[u8], scene: Scene, s: &mut [f64], parts: TotalParts, c: usize)
-    requires { ⌜ Laid (now sheet) scene ⌝ }
-    requires { ⌜ c < scene .n ⌝ }
-    requires { ⌜ spec.TotalApart scene parts (length (now s)) ⌝ }
-    requires { ⌜ part (now s) (parts .next) (scene .n) ≡ part (now s) 0 (scene .n) ⌝ }
-    ensures { λ _. ⌜ spec.SlopeColumnBy (dof.scaledRows (sceneOf (now (sheet .entry)) scene)) (now (s .entry)) (now (s .exit)) (parts .slopes) (scene .n) (scene .rows) 0 (parts .scaled) c ⌝ }
-{
-    let at = parts.next + c;
-    let v = s[c];
-    let h = step_of(v);
-    s[at] = v + h;
-    scaled_rows(sheet, scene, s, parts, parts.ahead);
-    s[at] = v - h;
-    scaled_rows(sheet, scene, s, parts, parts.behind);
-    s[at] = v;
-    put_column(
+    let b = record::body_at(sheet, scene.bodies + 136 * i);
+    let mut moved = [0.0; 144];
+    moved_poses(b, &mut moved);
+    named_columns(
+        sheet,
+        scene,
         s,
-        parts.slopes,
+        parts.poses,
+        i,
+        &moved,
+        six_steps(),
+        parts.slopes + k,
         scene.n,
-        scene.rows,
-        c,
-        parts.ahead,
-        parts.behind,
-        h,
     );
 }
 
-// The slopes of the scaled rows at the unknowns from 0 on; a copy of the unknowns stands at `next`. What stands behind the slopes afterwards is open: it is scratch.
+// The columns of body i, none where it has no unknowns.
+fn body_columns(sheet: &[u8], scene: Scene, s: &mut [f64], parts: TotalParts, i: usize)
+    requires { ⌜ Laid (now sheet) scene ⌝ }
+    requires { ⌜ spec.TotalApart scene parts (length (now s)) ⌝ }
+    requires { ⌜ i < scene .m ⌝ }
+    requires { ⌜ spec.Waiting (sceneOf (now sheet) scene) scene parts (now s) (given (sceneOf (now sheet) scene) i) ⌝ }
+    ensures { λ _. ⌜ spec.ColumnsFrom (sceneOf (now (sheet .entry)) scene) scene parts (now (s .entry)) (now (s .exit)) (given (sceneOf (now (sheet .entry)) scene) i) (given (sceneOf (now (sheet .entry)) scene) (i + 1)) ⌝ }
+{
+    let first = scene.index[i];
+    if first == 0xFFFF {
+        return;
+    }
+    let k = first as usize;
+    six_columns(sheet, scene, s, parts, i, k);
+}
+
+// The slopes of the scaled rows at the unknowns from 0 on, which are 0, as the places of the slopes are. The unknowns are scaled where they stand, and the poses worked out once:
+// then the columns follow body by body. What stands beside the slopes afterwards is open: it is scratch.
 fn slopes(sheet: &[u8], scene: Scene, s: &mut [f64], parts: TotalParts)
     requires { ⌜ Laid (now sheet) scene ⌝ }
     requires { ⌜ spec.TotalApart scene parts (length (now s)) ⌝ }
-    requires { ⌜ part (now s) (parts .next) (scene .n) ≡ part (now s) 0 (scene .n) ⌝ }
+    requires { ⌜ part (now s) 0 (scene .n) ≡ dof.zeros (scene .n) ⌝ }
+    requires { ⌜ part (now s) (parts .slopes) (scene .rows * scene .n) ≡ dof.zeros (scene .rows * scene .n) ⌝ }
     ensures { λ _. ⌜ spec.SlopesBy (dof.scaledRows (sceneOf (now (sheet .entry)) scene)) (now (s .entry)) (now (s .exit)) (parts .slopes) (scene .n) (scene .rows) 0 ⌝ }
 {
-    let n = scene.n;
-    for c in 0..n {
-        slope_column(sheet, scene, s, parts, c);
+    scale(sheet, scene, s, 0);
+    poses_at(sheet, scene, s, 0, parts.poses);
+    let m = scene.m;
+    for i in 0..m {
+        body_columns(sheet, scene, s, parts, i);
     }
 }
 
-// k zeros from o on.
-fn clear(s: &mut [f64], o: usize, k: usize)
-    requires { ⌜ o + k ≤ length (now s) ⌝ }
-    ensures { λ _. ⌜ Put (now (s .entry)) (now (s .exit)) o k (dof.zeros k) ⌝ }
-{
-    for i in 0..k {
-        s[o + i] = 0.0;
-    }
-}
-
-// Column i times column j of the slopes in the first places, summed from -0.
-fn columns_times(s: &[f64], rows: usize, n: usize, i: usize, j: usize) -> f64
-    requires { ⌜ i < n ⌝ }
-    requires { ⌜ j < n ⌝ }
-    requires { ⌜ rows * n ≤ length (now s) ⌝ }
-    ensures { λ r. ⌜ r ≡ dof.columnsTimes (part (now (s .entry)) 0 (rows * n)) rows n i j ⌝ }
-{
-    let mut t = -0.0;
-    for r in 0..rows {
-        let o = r * n;
-        t = t + s[o + i] * s[o + j];
-    }
-    t
-}
-
-// Row i of the slopes' square, which stands behind the slopes.
-fn square_row(s: &mut [f64], rows: usize, n: usize, i: usize)
+// Row i of the slopes' square, which stands behind the slopes. The list is room for the rows in which column i is no zero.
+fn square_row(s: &mut [f64], rows: usize, n: usize, i: usize, list: &mut [usize])
     requires { ⌜ i < n ⌝ }
     requires { ⌜ rows * n + n * n ≤ length (now s) ⌝ }
+    requires { ⌜ rows ≤ length (now list) ⌝ }
+    requires { ⌜ FiniteAt (now s) 0 (rows * n) ⌝ }
     ensures { λ _. ⌜ spec.SquareRow (now (s .entry)) (now (s .exit)) rows n i ⌝ }
 {
     let at = rows * n + i * n;
+    let count = filled(s, i, n, rows, list);
     for k in 0..n {
-        let v = columns_times(s, rows, n, i, k);
+        let v = columns_times(s, rows, n, i, k, list, count);
         s[at + k] = v;
     }
 }
@@ -201,10 +175,13 @@ fn square_row(s: &mut [f64], rows: usize, n: usize, i: usize)
 // The square of the slopes in the first places: each column times each, to the places behind them.
 fn square(s: &mut [f64], rows: usize, n: usize)
     requires { ⌜ rows * n + n * n ≤ length (now s) ⌝ }
+    requires { ⌜ rows ≤ 896 ⌝ }
+    requires { ⌜ FiniteAt (now s) 0 (rows * n) ⌝ }
     ensures { λ _. ⌜ Put (now (s .entry)) (now (s .exit)) (rows * n) (n * n) (dof.squareOf (part (now (s .entry)) 0 (rows * n)) rows n) ⌝ }
 {
+    let mut list = [0usize; 896];
     for i in 0..n {
-        square_row(s, rows, n, i);
+        square_row(s, rows, n, i, &mut list);
     }
 }
 
@@ -255,6 +232,8 @@ fn rank_of(vals: &[f64]) -> usize
 // `rank_rel` of the slopes in the first places; their square and its values stand behind them. What stands there afterwards is open: it is scratch.
 fn rank_rel(s: &mut [f64], rows: usize, n: usize) -> usize
     requires { ⌜ rows * n + n * n + n ≤ length (now s) ⌝ }
+    requires { ⌜ rows ≤ 896 ⌝ }
+    requires { ⌜ FiniteAt (now s) 0 (rows * n) ⌝ }
     ensures { λ r. ⌜ r ≡ dof.rankRel (part (now (s .entry)) 0 (rows * n)) rows n ⌝ }
 {
     if rows == 0 {
@@ -304,10 +283,11 @@ pub fn total(sheet: &[u8], scene: Scene, s: &mut [f64]) -> usize
     ensures { λ r. ⌜ spec.Counted (sceneOf (now (sheet .entry)) scene) (now (s .entry)) (now (s .exit)) r ⌝ }
 {
     let n = scene.n;
+    let rows = scene.rows;
     let parts = total_parts(scene);
     let x = 0;
     clear(s, x, n);
-    clear(s, parts.next, n);
+    clear(s, parts.slopes, rows * n);
     slopes(sheet, scene, &mut s[x..], parts);
     let at = parts.slopes;
     let rank = rank_rel(&mut s[at..], scene.rows, n);

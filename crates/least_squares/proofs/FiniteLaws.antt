@@ -13,7 +13,7 @@ use lib.Ieee.{Float, nan, inf, fin, Format, binary64, up, down, prec, emax, low,
 use lib.Ieee.Fits.{up-pos, down-pos, round-is}
 use lib.Ieee.Order.{round-mono}
 use Rattle.numbers.specs.Double.{zero64, one64, fmax, isFinite}
-use Rattle.least_squares.specs.Columns.{FiniteAt}
+use Rattle.least_squares.specs.Filled.{FiniteAt}
 use Rattle.least_squares.specs.Lm.{listOf, tableOf, slopeOf, slope, jacobian, allFinite, inverseWeight}
 use Rattle.least_squares.specs.Memory.{part}
 use Rattle.least_squares.proofs.MemoryLaws.{part-at, part-length}

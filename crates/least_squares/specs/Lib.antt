@@ -3,4 +3,4 @@ pub mod Memory
 pub mod Triangle
 pub mod LmPosts
 pub mod Dense
-pub mod Columns
+pub mod Filled

@@ -2,3 +2,4 @@
 pub mod dense;
 pub mod lm;
 pub mod triangle;
+pub mod zeros;

@@ -7,9 +7,10 @@ ghost use Rattle.numbers.specs.MaxAbs as largest;
 ghost use Rattle.least_squares.specs.Memory.{part};
 ghost use Rattle.least_squares.specs.Lm as spec;
 ghost use Rattle.least_squares.specs.Triangle.{triangle, spread};
-ghost use Rattle.least_squares.specs.Columns.{Columns, FiniteAt};
+ghost use Rattle.least_squares.specs.Filled.{Filled, FiniteAt};
 ghost use Rattle.least_squares.specs.LmPosts.{MatrixRow, Matrix, Copied, Damped, Stepped};
 use crate::triangle::places;
+use crate::zeros::filled;
 
 // From m on: infinity for a row that is not finite, else the larger of m and its magnitude.
 pub fn max_abs_step(m: f64, a: f64) -> f64
@@ -44,29 +45,12 @@ pub fn norm2(v: &[f64]) -> f64
     t
 }
 
-// The columns in which the n doubles from i on are no zeros, in order, to the first places of the list; how many there are.
-fn columns(s: &[f64], i: usize, n: usize, list: &mut [usize; 384]) -> usize
-    requires { ⌜ i + n ≤ length (now s) ⌝ }
-    requires { ⌜ (n ≤ 384) × (length (now list) ≡ 384) ⌝ }
-    ensures { λ m. ⌜ Columns (now (s .entry)) i n (now (list .exit)) m × (length (now (list .exit)) ≡ 384) ⌝ }
-{
-    let mut m = 0;
-    for c in 0..n {
-        if s[i + c] == 0.0 {
-            continue;
-        }
-        list[m] = c;
-        m = m + 1;
-    }
-    m
-}
-
 // The n products of the doubles from k on, those from i on and those from w on, summed from +0: those only where the double from i on is no zero, in the m columns of the
 // list. The others are zeros, and a sum from +0 is the same without them.
-fn gram(s: &[f64], k: usize, i: usize, w: usize, n: usize, list: &[usize; 384], m: usize) -> f64
+fn gram(s: &[f64], k: usize, i: usize, w: usize, n: usize, list: &[usize], m: usize) -> f64
     requires { ⌜ (k + n ≤ length (now s)) × (i + n ≤ length (now s)) ⌝ }
-    requires { ⌜ (w + n ≤ length (now s)) × (n ≤ 384) ⌝ }
-    requires { ⌜ Columns (now s) i n (now list) m ⌝ }
+    requires { ⌜ (w + n ≤ length (now s)) × (n ≤ length (now list)) ⌝ }
+    requires { ⌜ Filled (now s) i 1 n (now list) m ⌝ }
     requires { ⌜ FiniteAt (now s) k n × FiniteAt (now s) w n ⌝ }
     ensures { λ r. ⌜ r ≡ spec.gramAt (now (s .entry)) k i w n ⌝ }
 {
@@ -78,18 +62,18 @@ fn gram(s: &[f64], k: usize, i: usize, w: usize, n: usize, list: &[usize; 384], 
     t
 }
 
-// Row i of J W⁻¹ Jᵀ up to the diagonal, at `at`: the slopes at 0, the weights at w. In each product the row with the smaller number comes first. The list is scratch: what it
-// holds at entry has no say.
-fn matrix_row(s: &mut [f64], i: usize, at: usize, n: usize, w: usize, list: &mut [usize; 384])
-    requires { ⌜ (i < 800) × (n ≤ 384) × (length (now list) ≡ 384) ⌝ }
+// Row i of J W⁻¹ Jᵀ up to the diagonal, at `at`: the slopes at 0, the weights at w. In each product the row with the smaller number comes first. The list is room for
+// the columns in which row i is no zero: what it holds at entry is open.
+fn matrix_row(s: &mut [f64], i: usize, at: usize, n: usize, w: usize, list: &mut [usize])
+    requires { ⌜ (i < 800) × (n ≤ 384) × (n ≤ length (now list)) ⌝ }
     requires { ⌜ i * n + n ≤ at ⌝ }
     requires { ⌜ at + (i + 1) ≤ w ⌝ }
     requires { ⌜ w + n ≤ length (now s) ⌝ }
     requires { ⌜ FiniteAt (now s) 0 (i * n + n) × FiniteAt (now s) w n ⌝ }
-    ensures { λ _. ⌜ MatrixRow (now (s .entry)) (now (s .exit)) i at n w × (length (now (list .exit)) ≡ 384) ⌝ }
+    ensures { λ _. ⌜ MatrixRow (now (s .entry)) (now (s .exit)) i at n w ⌝ }
 {
     let row = i * n;
-    let m = columns(s, row, n, list);
+    let m = filled(s, row, 1, n, list);
     for k in 0..i + 1 {
         s[at + k] = gram(s, k * n, row, w, n, list, m);
     }

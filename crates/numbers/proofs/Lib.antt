@@ -11,3 +11,4 @@ pub mod Loops
 pub mod HornerNear
 pub mod SumNear
 pub mod ZeroLaws
+pub mod ListedLaws

@@ -1,13 +1,12 @@
 -- Zeros among doubles. A zero added to a double that is not -0 leaves it, and a sum is -0 only where both numbers are: so a sum from +0 is the same without its terms that are
--- zeros, in any number and place (`sum-listed`), NaNs and infinities too. A sum from -0 is that from +0 unless all terms are -0 (`sum-from-minus`, `sum-all-minus`). A product with a
+-- zeros, in any number and place (`sum-listed`), NaNs and infinities too. A sum from -0 is that from +0 unless all terms are -0 (`sums-tied`). A product with a
 -- zero is a zero where the other factor is finite. Assumes nothing.
-use mathlib.Core.Logic.{⊎-elim, inl, inr, _⊎_}
 use mathlib.Core.Path.{_≡_, refl, sym, ap, subst, _∙_}
 use mathlib.Core.Bool.{Bool, true, false, not, _&&_, _||_, Bool·beq, cond, false≢true}
 use borrow.Author.Tests.{le-ltb, lt-ltb}
 use Prim.Native.Nat.{ℕ, zero, suc, _+_, _-_, _*_, _/_, _%_, _^_, _≤_, _<_, compare}
 use native.Mathlib.Omega.{arith}
-use native.Mathlib.Nat.{not-suc-le-zero, eq-or-lt-of-le, le-of-suc-le-suc, zero-add, zero-mul, mul-zero, one-mul, mul-one, mul-comm, mul-assoc, mul-right-comm, mul-pos, mul-le-mul-right, mul-lt-mul-of-pos-right, lt-of-mul-lt-mul-right, mul-sub, suc-mul, le-trans, zero-lt-suc, le-div-iff-mul-le, div-mul-le-self, add-zero, eq-of-mul-eq-mul-right}
+use native.Mathlib.Nat.{zero-add, zero-mul, mul-zero, one-mul, mul-one, mul-comm, mul-assoc, mul-right-comm, mul-pos, mul-le-mul-right, mul-lt-mul-of-pos-right, lt-of-mul-lt-mul-right, mul-sub, suc-mul, le-trans, zero-lt-suc, le-div-iff-mul-le, div-mul-le-self, add-zero, eq-of-mul-eq-mul-right}
 use lib.IntN.{ℤ, pos, negsuc}
 use lib.Dec.{T, ltb, leb, eqb, eqb→eq, ltb→lt, leb→le, nleb→lt}
 use lib.Pow.{pow-add, pow-pos, pow-lt}
@@ -22,7 +21,7 @@ use mathlib.Core.List.{[], _∷_, _++_, foldl, foldl-append}
 use Rattle.numbers.specs.Double.{zero64, isFinite, negative}
 use Rattle.numbers.specs.Ops.{doubles}
 use Rattle.numbers.specs.Sum.{sumFrom}
-use Rattle.numbers.specs.Zeros.{IsZero, listed, sumOver}
+use Rattle.numbers.specs.Zeros.{IsZero, listed, sumOver, isMinus, allMinus}
 use Rattle.numbers.proofs.DoubleLaws.{zero-value}
 
 -- ---- a double that fits, in units of the format's smallest value
@@ -364,7 +363,7 @@ add-first-nothing f z y q h p = zero-form z (λ z. (negative z ≡ false → Pla
         ∙ ap (λ (x : ℕ). round f t (n * up d * down e) x) (mul-comm (down e) (down d)) ∙ over-another f t n d e h
 
 -- what is no zero below 0
-pub plain-is : (x : Float) → (IsZero x → negative x ≡ false) → Plain x
+plain-is : (x : Float) → (IsZero x → negative x ≡ false) → Plain x
 unfolding negative
 plain-is nan h = tt
 plain-is (inf s) h = tt
@@ -383,52 +382,29 @@ minus-zero : IsZero (neg zero64)
 unfolding eq neg ofBits
 minus-zero = refl
 
+-- The sum from -0 is that from +0, but -0 where all terms are -0, and then the other is +0.
+abbrev pub Tied : Bool → Float → Float → Type 0
+Tied true x y = (x ≡ neg zero64) × (y ≡ zero64)
+Tied false x y = x ≡ y
+
 and-is : (a b : Bool) → (a && b) ≡ true → (a ≡ true) × (b ≡ true)
 and-is true b h = (refl, h)
 and-is false b h = absurd (false≢true h)
 
-not-both : (a b : Bool) → (a && b) ≡ false → a ≡ true → b ≡ false
-not-both a b h k = sym (ap (λ (x : Bool). x && b) k) ∙ h
+-- one term more
+tied-more : (a b : Bool) (x y v : Float) → T (fits binary64 v) → isMinus v ≡ b → Tied a x y → Tied (a && b) (add binary64 x v) (add binary64 y v)
+tied-more true true x y v f e h =
+    let z = and-is (eq v zero64) (negative v) e in (
+      ap (λ (u : Float). add binary64 u v) (h .0) ∙ add-minus-nothing binary64 (neg zero64) v minus-fits (z .0) (z .1),
+      ap (λ (u : Float). add binary64 u v) (h .1) ∙ add-minus-nothing binary64 zero64 v (ofBits-fits binary64 0) (z .0) (z .1),
+    )
+tied-more true false x y v f e h =
+    let p = plain-is v (λ z. sym (ap (λ (u : Bool). u && negative v) z) ∙ e) in
+    ap (λ (u : Float). add binary64 u v) (h .0) ∙ add-first-nothing binary64 (neg zero64) v minus-zero f (λ k. p)
+    ∙ sym (ap (λ (u : Float). add binary64 u v) (h .1) ∙ add-first-nothing binary64 zero64 v plus-zero f (λ k. p))
+tied-more false b x y v f e h = ap (λ (u : Float). add binary64 u v) h
 
-module _ (f : ℕ → Float) (terms-fit : (i : ℕ) → T (fits binary64 (f i))) where
-  -- -0 where all terms are
-  pub sum-all-minus : (n : ℕ) → ((i : ℕ) → i < n → IsZero (f i) × (negative (f i) ≡ true)) → sumFrom doubles (neg zero64) f n ≡ neg zero64
-  unfolding sumFrom
-  sum-all-minus zero h = refl
-  sum-all-minus (suc n) h =
-      ap (λ (x : Float). add binary64 x (f n)) (sum-all-minus n (λ i l. h i (omega arith)))
-      ∙ add-minus-nothing binary64 (neg zero64) (f n) minus-fits (h n (omega arith) .0) (h n (omega arith) .1)
-
-  from-zero : (n : ℕ) → (sumFrom doubles (neg zero64) f n ≡ neg zero64) × (sumFrom doubles zero64 f n ≡ zero64) → Plain (f n)
-      → add binary64 (sumFrom doubles (neg zero64) f n) (f n) ≡ add binary64 (sumFrom doubles zero64 f n) (f n)
-  from-zero n e p =
-      ap (λ (x : Float). add binary64 x (f n)) (e .0) ∙ add-first-nothing binary64 (neg zero64) (f n) minus-zero (terms-fit n) (λ k. p)
-      ∙ sym (ap (λ (x : Float). add binary64 x (f n)) (e .1) ∙ add-first-nothing binary64 zero64 (f n) plus-zero (terms-fit n) (λ k. p))
-
-  -- the two sums are the same, or all terms so far are -0
-  both : (n : ℕ) → (sumFrom doubles (neg zero64) f n ≡ sumFrom doubles zero64 f n) ⊎ ((sumFrom doubles (neg zero64) f n ≡ neg zero64) × (sumFrom doubles zero64 f n ≡ zero64))
-  unfolding sumFrom
-  both zero = inr (refl, refl)
-  both (suc n) = ⊎-elim (λ e. inl (ap (λ (x : Float). add binary64 x (f n)) e)) (λ e. by-term (eq (f n) zero64 && negative (f n)) refl e) (both n)
-    where
-      by-term : (b : Bool) → (eq (f n) zero64 && negative (f n)) ≡ b → (sumFrom doubles (neg zero64) f n ≡ neg zero64) × (sumFrom doubles zero64 f n ≡ zero64)
-          → (add binary64 (sumFrom doubles (neg zero64) f n) (f n) ≡ add binary64 (sumFrom doubles zero64 f n) (f n)) ⊎ ((add binary64 (sumFrom doubles (neg zero64) f n) (f n) ≡ neg zero64) × (add binary64 (sumFrom doubles zero64 f n) (f n) ≡ zero64))
-      by-term true q e =
-          let z = and-is (eq (f n) zero64) (negative (f n)) q in
-          inr (
-            ap (λ (x : Float). add binary64 x (f n)) (e .0) ∙ add-minus-nothing binary64 (neg zero64) (f n) minus-fits (z .0) (z .1),
-            ap (λ (x : Float). add binary64 x (f n)) (e .1) ∙ add-minus-nothing binary64 zero64 (f n) (ofBits-fits binary64 0) (z .0) (z .1),
-          )
-      by-term false q e = inl (from-zero n e (plain-is (f n) (not-both (eq (f n) zero64) (negative (f n)) q)))
-
-  -- from -0 the sum is that from +0, where one term is no -0
-  pub sum-from-minus : (n j : ℕ) → j < n → Plain (f j) → sumFrom doubles (neg zero64) f n ≡ sumFrom doubles zero64 f n
-  unfolding sumFrom
-  sum-from-minus zero j h p = absurd (not-suc-le-zero h)
-  sum-from-minus (suc n) j h p = ⊎-elim
-      (λ e. ap (λ (x : Float). add binary64 x (f n)) e)
-      (λ e.
-      elim (eq-or-lt-of-le (le-of-suc-le-suc h)) [
-        | inl q ↦ from-zero n e (subst (λ (x : ℕ). Plain (f x)) q p)
-        | inr l ↦ ap (λ (x : Float). add binary64 x (f n)) (sum-from-minus n j l p)
-      ]) (both n)
+pub sums-tied : (f : ℕ → Float) → ((i : ℕ) → T (fits binary64 (f i))) → (n : ℕ) → Tied (allMinus f n) (sumFrom doubles (neg zero64) f n) (sumFrom doubles zero64 f n)
+unfolding allMinus sumFrom
+sums-tied f fit zero = (refl, refl)
+sums-tied f fit (suc n) = tied-more (allMinus f n) (isMinus (f n)) (sumFrom doubles (neg zero64) f n) (sumFrom doubles zero64 f n) (f n) (fit n) refl (sums-tied f fit n)

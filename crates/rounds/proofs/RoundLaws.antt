@@ -11,7 +11,7 @@ use lib.Ieee.{Float, nan, lt}
 use Rattle.numbers.specs.Double.{isFinite}
 use borrow.Rule.Slice.PartMut.{putMid}
 use Rattle.least_squares.specs.Memory.{part, Kept}
-use Rattle.least_squares.specs.Columns.{FiniteAt}
+use Rattle.least_squares.specs.Filled.{FiniteAt}
 use Rattle.least_squares.specs.Lm.{State, Tried, norm2, jacobian, allFinite, normal, stiffer, softer, judged, stepped, stepWith, trial, trials, oneRound}
 use Rattle.least_squares.specs.Triangle.{triangle, spread}
 use Rattle.least_squares.specs.LmPosts.{Matrix}
@@ -42,13 +42,9 @@ arranged c size h =
       rows = omega arith;
       next = omega arith;
       ahead = omega arith;
-      behind = omega arith;
       poses = omega arith;
       from-x = omega arith;
       from-slopes = refl;
-      from-next = omega arith;
-      from-ahead = omega arith;
-      from-behind = omega arith;
       from-poses = omega arith;
     }
 
@@ -183,12 +179,12 @@ slopes-tail sc a s q j n rows x b h g =
 
 -- the slopes filled, in the whole scratch
 pub slopes-lent : (sc : Scene) (c : SceneStruct) (p : PartsStruct) (s q : List Float) → Arranged c p (length s)
-    → Slopes sc (take (length s - p .x) (drop (p .x) s)) q (p .seen .slopes) (c .n) (c .rows) (p .seen .x) (p .seen .next)
-    → Slopes sc s (putMid (p .x) (length s - p .x) s q) (p .slopes) (c .n) (c .rows) (p .x) (p .next)
+    → Slopes sc (take (length s - p .x) (drop (p .x) s)) q (p .seen .slopes) (c .n) (c .rows) (p .seen .x) (p .seen .poses)
+    → Slopes sc s (putMid (p .x) (length s - p .x) s q) (p .slopes) (c .n) (c .rows) (p .x) (p .poses)
 slopes-lent sc c p s q at g =
     let h : p .x ≤ length s = omega arith in
-    let r : Slopes sc (drop (p .x) s) q (p .seen .slopes) (c .n) (c .rows) (p .seen .x) (p .seen .next) = rw (← length-drop (p .x) s, take-length) at g in
-    rw (put-tail (p .x) s q h) (rw (at .from-slopes, at .from-x, at .from-next) at (slopes-tail sc (p .x) s q (p .seen .slopes) (c .n) (c .rows) (p .seen .x) (p .seen .next) h r))
+    let r : Slopes sc (drop (p .x) s) q (p .seen .slopes) (c .n) (c .rows) (p .seen .x) (p .seen .poses) = rw (← length-drop (p .x) s, take-length) at g in
+    rw (put-tail (p .x) s q h) (rw (at .from-slopes, at .from-x, at .from-poses) at (slopes-tail sc (p .x) s q (p .seen .slopes) (c .n) (c .rows) (p .seen .x) (p .seen .poses) h r))
 
 -- the matrix formed, in the whole scratch
 pub record Formed (c : SceneStruct) (p : PartsStruct) (s t : List Float) : Type 0 where
@@ -217,7 +213,7 @@ matrix-lent c p s q at g =
 pub apart-lent : (c : SceneStruct) (p : PartsStruct) (s : List Float) → Arranged c p (length s) → Apart c (p .seen) (length (take (length s - p .x) (drop (p .x) s)))
 apart-lent c p s at =
     let e : length (take (length s - p .x) (drop (p .x) s)) ≡ length s - p .x = length-take-le (length s - p .x) (drop (p .x) s) (simp length-drop (omega arith)) in
-    record { x = omega arith; slopes = omega arith; next = omega arith; ahead = omega arith; behind = omega arith; poses = omega arith }
+    record { x = omega arith; slopes = omega arith; poses = omega arith }
 
 pub matrix-room : (c : SceneStruct) (p : PartsStruct) (s : List Float) → Arranged c p (length s)
     → c .rows * c .n + triangle (c .rows) + c .n ≤ length (take (length s - p .slopes) (drop (p .slopes) s))
@@ -255,11 +251,11 @@ slopes-below : (sc : Scene) (s t : List Float) (j n rows x a o k : ℕ) → o + 
 slopes-below sc s t j n rows x a o k h g = taken-part s t j o k (g .size) (g .below) h
 
 -- after the filling of slopes the slopes are finite, and the weights still are
-pub sloped-finite : (sc : Scene) (c : SceneStruct) (p : PartsStruct) (s t : List Float) → Arranged c p (length s) → Slopes sc s t (p .slopes) (c .n) (c .rows) (p .x) (p .next)
+pub sloped-finite : (sc : Scene) (c : SceneStruct) (p : PartsStruct) (s t : List Float) → Arranged c p (length s) → Slopes sc s t (p .slopes) (c .n) (c .rows) (p .x) (p .poses)
     → allFinite (weightsIn c p s) ≡ true → (allFinite (slopesIn c p t) ≡ true) × (allFinite (weightsIn c p t) ≡ true)
 sloped-finite sc c p s t at g h = (
   ap allFinite (g .holds) ∙ jacobian-finite (rowsOf sc) (unknownsIn c p s) (c .rows),
-  ap allFinite (slopes-part sc s t (p .slopes) (c .n) (c .rows) (p .x) (p .next) (p .weights) (c .n) (omega arith) (omega arith) g) ∙ h,
+  ap allFinite (slopes-part sc s t (p .slopes) (c .n) (c .rows) (p .x) (p .poses) (p .weights) (c .n) (omega arith) (omega arith) g) ∙ h,
 )
 
 -- ---- a round in memory
@@ -271,17 +267,17 @@ one-round-is f winv s rows n a b =
     λ j. trials f winv (jacobian f (s .x) (sym a j)) (normal (jacobian f (s .x) (sym a j)) winv (sym b j) (sym a j)) (sym a j) 12 s
 
 module _ (sc : Scene) (c : SceneStruct) (p : PartsStruct) (s s1 s2 t : List Float) (cost mu : Float) (r : TriedStruct) (at : Arranged c p (length s))
-    (sloped : Slopes sc s s1 (p .slopes) (c .n) (c .rows) (p .x) (p .next)) (formed : Formed c p s1 s2) (tried : TrialsMade sc c p s2 t cost mu r) where
-  -- a part before the slopes, and one behind the matrix and before the copy of the unknowns, is as it was
+    (sloped : Slopes sc s s1 (p .slopes) (c .n) (c .rows) (p .x) (p .poses)) (formed : Formed c p s1 s2) (tried : TrialsMade sc c p s2 t cost mu r) where
+  -- a part before the slopes, and one behind the matrix and before the poses, is as it was
   same-before : (o k : ℕ) → o + k ≤ p .slopes → part s2 o k ≡ part s o k
   same-before o k h =
       kept-part-below s1 s2 (p .matrix) (p .weights) o k (omega arith) (formed .kept)
-      ∙ slopes-below sc s s1 (p .slopes) (c .n) (c .rows) (p .x) (p .next) o k h sloped
+      ∙ slopes-below sc s s1 (p .slopes) (c .n) (c .rows) (p .x) (p .poses) o k h sloped
 
-  same-behind : (o k : ℕ) → p .weights ≤ o → o + k ≤ p .next → part s2 o k ≡ part s o k
+  same-behind : (o k : ℕ) → p .weights ≤ o → o + k ≤ p .poses → part s2 o k ≡ part s o k
   same-behind o k h l =
       kept-part-above s1 s2 (p .matrix) (p .weights) o k h (formed .kept)
-      ∙ slopes-part sc s s1 (p .slopes) (c .n) (c .rows) (p .x) (p .next) o k (omega arith) l sloped
+      ∙ slopes-part sc s s1 (p .slopes) (c .n) (c .rows) (p .x) (p .poses) o k (omega arith) l sloped
 
   same-weights : weightsIn c p s2 ≡ weightsIn c p s
   same-weights = same-behind (p .weights) (c .n) (omega arith) (omega arith)
@@ -301,7 +297,7 @@ module _ (sc : Scene) (c : SceneStruct) (p : PartsStruct) (s s1 s2 t : List Floa
   matrix-two : matrixIn c p s2 ≡ normal (jacobian (rowsOf sc) (unknownsIn c p s) (c .rows)) (weightsIn c p s) (c .n) (c .rows)
   matrix-two =
       formed .matrix
-      ∙ (λ j. normal (sloped .holds j) (slopes-part sc s s1 (p .slopes) (c .n) (c .rows) (p .x) (p .next) (p .weights) (c .n) (omega arith) (omega arith) sloped j) (c .n) (c .rows))
+      ∙ (λ j. normal (sloped .holds j) (slopes-part sc s s1 (p .slopes) (c .n) (c .rows) (p .x) (p .poses) (p .weights) (c .n) (omega arith) (omega arith) sloped j) (c .n) (c .rows))
 
   pub round-made : RoundMade sc c p s t cost mu r
   round-made =

@@ -22,8 +22,7 @@ solveParts c =
     let rows = right + c .rows in
     let next = rows + c .rows in
     let ahead = next + c .n in
-    let behind = ahead + c .rows in
-    let poses = behind + c .rows in
+    let poses = ahead + c .rows in
     record {
       first = 0;
       x = c .n;
@@ -35,9 +34,8 @@ solveParts c =
       rows = rows;
       next = next;
       ahead = ahead;
-      behind = behind;
       poses = poses;
-      seen = record { x = 0; slopes = c .n; next = next - c .n; ahead = ahead - c .n; behind = behind - c .n; poses = poses - c .n };
+      seen = record { x = 0; slopes = c .n; poses = poses - c .n };
     }
 
 -- what each part is for, and that it stands behind the last; within so many doubles
@@ -54,15 +52,11 @@ pub record Arranged (c : SceneStruct) (p : PartsStruct) (size : ℕ) : Type 0 wh
   pub right : p .right + c .rows ≤ p .rows
   -- the rows at the unknowns
   pub rows : p .rows + c .rows ≤ p .next
-  -- the unknowns after a step, or with one of them a step ahead or behind; the rows there
+  -- the unknowns after a step, and the rows there
   pub next : p .next + c .n ≤ p .ahead
-  pub ahead : p .ahead + c .rows ≤ p .behind
-  pub behind : p .behind + c .rows ≤ p .poses
+  pub ahead : p .ahead + c .rows ≤ p .poses
   pub poses : p .poses + 12 * c .m ≤ size
   -- the same places, counted from `x` on
   pub from-x : p .x + p .seen .x ≡ p .x
   pub from-slopes : p .x + p .seen .slopes ≡ p .slopes
-  pub from-next : p .x + p .seen .next ≡ p .next
-  pub from-ahead : p .x + p .seen .ahead ≡ p .ahead
-  pub from-behind : p .x + p .seen .behind ≡ p .behind
   pub from-poses : p .x + p .seen .poses ≡ p .poses

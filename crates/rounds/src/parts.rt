@@ -19,7 +19,6 @@ pub struct SolveParts {
     pub rows: usize,
     pub next: usize,
     pub ahead: usize,
-    pub behind: usize,
     pub poses: usize,
     pub seen: SlopeParts,
 }
@@ -38,14 +37,10 @@ pub fn solve_parts(scene: Scene) -> SolveParts
     let at = right + rows;
     let next = at + rows;
     let ahead = next + n;
-    let behind = ahead + rows;
-    let poses = behind + rows;
+    let poses = ahead + rows;
     let seen = SlopeParts {
         x: 0,
         slopes: n,
-        next: next - n,
-        ahead: ahead - n,
-        behind: behind - n,
         poses: poses - n,
     };
     SolveParts {
@@ -59,7 +54,6 @@ pub fn solve_parts(scene: Scene) -> SolveParts
         rows: at,
         next,
         ahead,
-        behind,
         poses,
         seen,
     }

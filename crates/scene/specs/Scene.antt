@@ -10,7 +10,7 @@ use lib.Dec.{eqb}
 use lib.Ieee.{Float, nan}
 use Rattle.vectors.specs.Vec.{Vec}
 use Rattle.relations.specs.Geometry.{Pose}
-use Rattle.least_squares.specs.Lm.{listOf, inverseWeight, slope, jacobian}
+use Rattle.least_squares.specs.Lm.{listOf, inverseWeight, jacobian}
 use Rattle.least_squares.specs.Memory.{part, Kept}
 use Rattle.relations.specs.Model.{Body, Rel}
 use Rattle.records.specs.Record.{bodyAt, relAt}
@@ -108,20 +108,6 @@ pub record RowsAt (sc : Scene) (s t : List Float) (x n r rows p : ℕ) : Type 0 
   pub holds : part t r rows ≡ rowsOf sc (part s x n)
   pub below : (q : ℕ) → q < r → getD t q nan ≡ getD s q nan
   pub between : (q : ℕ) → r + rows ≤ q → q < p → getD t q nan ≡ getD s q nan
-
--- column c of a matrix of so many rows and n columns at j
-pub record Column (s t : List Float) (j n rows c : ℕ) (f : ℕ → Float) : Type 0 where
-  pub entries : (i : ℕ) → i < rows → getD t (j + (i * n + c)) nan ≡ f i
-  pub others : (i d : ℕ) → i < rows → d < n → (d ≡ c → ⊥) → getD t (j + (i * n + d)) nan ≡ getD s (j + (i * n + d)) nan
-  pub kept : Kept s t j (j + rows * n)
-
--- column c of the slopes at the unknowns from x on; below a nothing outside the slopes has changed. The places from a on are scratch: what they hold is open
-pub record SlopeColumn (sc : Scene) (s t : List Float) (j n rows x a c : ℕ) : Type 0 where
-  pub size : length t ≡ length s
-  pub entries : (i : ℕ) → i < rows → getD t (j + (i * n + c)) nan ≡ slope (rowsOf sc) (part s x n) i c
-  pub others : (i d : ℕ) → i < rows → d < n → (d ≡ c → ⊥) → getD t (j + (i * n + d)) nan ≡ getD s (j + (i * n + d)) nan
-  pub below : (q : ℕ) → q < j → getD t q nan ≡ getD s q nan
-  pub between : (q : ℕ) → j + rows * n ≤ q → q < a → getD t q nan ≡ getD s q nan
 
 -- the slopes at the unknowns from x on, from place j on; below a nothing else has changed. The places from a on are scratch: what they hold is open
 pub record Slopes (sc : Scene) (s t : List Float) (j n rows x a : ℕ) : Type 0 where

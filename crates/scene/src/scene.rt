@@ -170,7 +170,7 @@ fn end_pose(s: &[f64], p: usize, m: usize, place: BodyRef) -> Pose
 }
 
 // What the third end belongs to, symmetry's plane or a gear's carrier.
-fn third_body(law: Law) -> BodyRef
+pub fn third_body(law: Law) -> BodyRef
     ensures { λ r. ⌜ bodyNumber r ≡ solve.thirdBody (lawOf law) ⌝ }
 {
     match law {

@@ -1,1 +1,2 @@
 pub mod AnewSlopes
+pub mod Moved

@@ -1,141 +1,123 @@
-// The slopes of the rows along each unknown, by differences: as an unknown of a body moves, only that body's pose and the relations that name the body are worked anew.
-// `specs/AnewSlopes.antt` has what stands where. What is left in the places from `next` on, the copy, the rows and the poses, is open: it is scratch.
+// The slopes of the rows along each unknown, by differences: as an unknown of a body moves, only that body's pose and the rows of the relations that name the body change. So the slopes
+// are +0 at first, and each body's six columns are worked from its poses a step ahead and a step behind along each of its unknowns.
+// `specs/AnewSlopes.antt` has what stands where. What is left in the places from `poses` on is open: it is scratch.
 
 ghost use mathlib.Core.Path.{_≡_};
-ghost use mathlib.Core.Bool.{false};
 ghost use mathlib.Core.Option.{none, some};
 ghost use Prim.Native.Nat.{_+_, _*_, _≤_, _<_};
 ghost use lib.ListN.{length, getD};
-ghost use Rattle.records.specs.Record as format;
+ghost use Rattle.numbers.specs.Double.{zero64};
+ghost use Rattle.relations.specs.Model.{bodyOf, pose};
+ghost use Rattle.least_squares.specs.Lm.{listOf};
 ghost use Rattle.least_squares.specs.Memory.{part};
 ghost use Rattle.scene.specs.Solve as definitions;
-ghost use Rattle.scene.specs.Scene.{Laid, sceneOf, relRows, posesIn, Put, PutNext, Slopes};
+ghost use Rattle.scene.specs.Scene.{Laid, sceneOf, Put, Slopes};
 ghost use Rattle.slopes.specs.AnewSlopes as spec;
-use crate::slopes::put_column;
+use crate::moved::named_columns;
 use crate::slopes::step_of;
-use judging::count::row_count;
-use least_squares::lm::copy;
-use records::record::rel_at;
+use records::record::body_at;
+use relations::model::Body;
+use relations::model::Pose;
 use scene::scene::Scene;
-use scene::scene::names;
+use scene::scene::moved_pose;
 use scene::scene::poses_at;
-use scene::scene::put_body;
-use scene::scene::put_rows;
-use scene::scene::rel_rows;
-use scene::scene::residuals;
+use scene::scene::put_pose;
+use vectors::vec::Vec3;
 
-// Where things stand: the unknowns, the slopes, a copy of the unknowns in which one of them goes a step ahead and a step behind, the rows ahead and behind, the poses.
+// Where things stand: the unknowns, the slopes, the poses.
 pub struct SlopeParts {
     pub x: usize,
     pub slopes: usize,
-    pub next: usize,
-    pub ahead: usize,
-    pub behind: usize,
     pub poses: usize,
 }
 
-// The rows of relation j, where it names body i, to the places from `at` on; else they stand there. The place behind them.
-fn refresh_one(
-    sheet: &[u8],
-    scene: Scene,
-    s: &mut [f64],
-    p: usize,
-    i: usize,
-    at: usize,
-    j: usize,
-) -> usize
-    requires { ⌜ Laid (now sheet) scene ⌝ }
-    requires { ⌜ j < scene .k ⌝ }
-    requires { ⌜ at + length (relRows (now sheet) scene (posesIn (now s) p (scene .m)) j) ≤ p ⌝ }
-    requires { ⌜ p + 12 * scene .m ≤ length (now s) ⌝ }
-    requires { ⌜ (definitions.names (format.relAt (now sheet) (scene .rels + 264 * j)) i ≡ false → part (now s) at (length (relRows (now sheet) scene (posesIn (now s) p (scene .m)) j)) ≡ relRows (now sheet) scene (posesIn (now s) p (scene .m)) j) ⌝ }
-    ensures { λ r. ⌜ PutNext (now (s .entry)) (now (s .exit)) at r (length (relRows (now (sheet .entry)) scene (posesIn (now (s .entry)) p (scene .m)) j)) (relRows (now (sheet .entry)) scene (posesIn (now (s .entry)) p (scene .m)) j) ⌝ }
+// k zeros from o on.
+pub fn clear(s: &mut [f64], o: usize, k: usize)
+    requires { ⌜ o + k ≤ length (now s) ⌝ }
+    ensures { λ _. ⌜ Put (now (s .entry)) (now (s .exit)) o k (listOf (λ i. zero64) k) ⌝ }
 {
-    let m = scene.m;
-    let rel = rel_at(sheet, scene.rels + 264 * j);
-    if names(rel, i) {
-        let rows = rel_rows(s, p, m, rel);
-        return put_rows(s, at, rows);
-    }
-    at + row_count(rel)
-}
-
-// The rows of all relations, from the poses at p, to the places from r on, where they stand but for those that name body i.
-fn refresh(sheet: &[u8], scene: Scene, s: &mut [f64], p: usize, i: usize, r: usize)
-    requires { ⌜ Laid (now sheet) scene ⌝ }
-    requires { ⌜ r + scene .rows ≤ p ⌝ }
-    requires { ⌜ p + 12 * scene .m ≤ length (now s) ⌝ }
-    requires { ⌜ spec.RowsBut (sceneOf (now sheet) scene) i (posesIn (now s) p (scene .m)) (part (now s) r (scene .rows)) ⌝ }
-    ensures { λ _. ⌜ Put (now (s .entry)) (now (s .exit)) r (scene .rows) (definitions.allRows (posesIn (now (s .entry)) p (scene .m)) (sceneOf (now (sheet .entry)) scene .rels)) ⌝ }
-{
-    let k = scene.k;
-    let mut at = r;
-    for j in 0..k {
-        at = refresh_one(sheet, scene, s, p, i, at, j);
+    for i in 0..k {
+        s[o + i] = 0.0;
     }
 }
 
-// The rows at the copy of the unknowns, to the places from r on, where poses and rows stand but for where body i does.
-fn anew_rows(sheet: &[u8], scene: Scene, s: &mut [f64], at: SlopeParts, r: usize, i: usize)
-    requires { ⌜ Laid (now sheet) scene ⌝ }
-    requires { ⌜ spec.Apart scene at (length (now s)) ⌝ }
-    requires { ⌜ i < scene .m ⌝ }
-    requires { ⌜ (at .next + scene .n ≤ r) × (r + scene .rows ≤ at .poses) ⌝ }
-    requires { ⌜ spec.AllBut (sceneOf (now sheet) scene) scene at (now s) i r (part (now s) (at .next) (scene .n)) ⌝ }
-    ensures { λ _. ⌜ spec.AnewRows (sceneOf (now (sheet .entry)) scene) scene at (now (s .entry)) (now (s .exit)) r ⌝ }
+// The six doubles from o on.
+fn six_at(s: &[f64], o: usize) -> [f64; 6]
+    requires { ⌜ o + 6 ≤ length (now s) ⌝ }
+    ensures { λ x. ⌜ x ≡ part (now (s .entry)) o 6 ⌝ }
 {
-    let p = at.poses;
-    put_body(sheet, scene, s, at.next, p + 12 * i, i);
-    refresh(sheet, scene, s, p, i, r);
+    [s[o], s[o + 1], s[o + 2], s[o + 3], s[o + 4], s[o + 5]]
 }
 
-// Column k of the slopes, k an unknown of body i.
-fn anew_column(sheet: &[u8], scene: Scene, s: &mut [f64], at: SlopeParts, i: usize, k: usize)
-    requires { ⌜ Laid (now sheet) scene ⌝ }
-    requires { ⌜ spec.Apart scene at (length (now s)) ⌝ }
-    requires { ⌜ (i < scene .m) × (k < scene .n) ⌝ }
-    requires { ⌜ spec.Among (sceneOf (now sheet) scene) i k ⌝ }
-    requires { ⌜ spec.StandingBut (sceneOf (now sheet) scene) scene at (now s) i (spec.unknownsAt scene at (now s)) ⌝ }
-    ensures { λ _. ⌜ spec.AnewColumn (sceneOf (now (sheet .entry)) scene) scene at (now (s .entry)) (now (s .exit)) i k ⌝ }
+// The pose of a body that moves, at its six unknowns.
+fn six_pose(b: Body, x: [f64; 6]) -> Pose
+    ensures { λ q. ⌜ pose q ≡ definitions.poseAt x (bodyOf b) (some 0) ⌝ }
 {
-    let x = at.x;
-    let y = at.next;
-    let v = s[x + k];
+    let t = Vec3 {
+        x: x[0],
+        y: x[1],
+        z: x[2],
+    };
+    let w = Vec3 {
+        x: x[3],
+        y: x[4],
+        z: x[5],
+    };
+    moved_pose(b, t, w)
+}
+
+// A body's poses with its unknown e a step ahead and a step behind, each to its twelve places; the step.
+fn put_moved(moved: &mut [f64], b: Body, x: [f64; 6], e: usize) -> f64
+    requires { ⌜ 144 ≤ length (now moved) ⌝ }
+    requires { ⌜ e < 6 ⌝ }
+    ensures { λ h. ⌜ spec.MovedAlong (bodyOf b) x (now (moved .entry)) (now (moved .exit)) e h ⌝ }
+{
+    let mut y = x;
+    let v = x[e];
     let h = step_of(v);
-    s[y + k] = v + h;
-    anew_rows(sheet, scene, s, at, at.ahead, i);
-    s[y + k] = v - h;
-    anew_rows(sheet, scene, s, at, at.behind, i);
-    s[y + k] = v;
-    put_column(s, at.slopes, scene.n, scene.rows, k, at.ahead, at.behind, h);
+    y[e] = v + h;
+    put_pose(moved, 12 * e, six_pose(b, y));
+    y[e] = v - h;
+    put_pose(moved, 72 + 12 * e, six_pose(b, y));
+    h
+}
+
+// The same for each of its six unknowns; the steps.
+fn moved_poses(moved: &mut [f64], b: Body, x: [f64; 6]) -> [f64; 6]
+    requires { ⌜ 144 ≤ length (now moved) ⌝ }
+    ensures { λ steps. ⌜ spec.MovedAll (bodyOf b) x (now (moved .entry)) (now (moved .exit)) steps ⌝ }
+{
+    let mut steps = [0.0; 6];
+    for e in 0usize..6 {
+        steps[e] = put_moved(moved, b, x, e);
+    }
+    steps
 }
 
 // The six columns of body i, whose first unknown is k.
-fn six_columns(sheet: &[u8], scene: Scene, s: &mut [f64], at: SlopeParts, i: usize, k: usize)
-    requires { ⌜ Laid (now sheet) scene ⌝ }
-    requires { ⌜ spec.Apart scene at (length (now s)) ⌝ }
-    requires { ⌜ (i < scene .m) × (k + 6 ≤ scene .n) ⌝ }
-    requires { ⌜ getD (definitions.layout (sceneOf (now sheet) scene)) i none ≡ some k ⌝ }
-    requires { ⌜ spec.StandingBut (sceneOf (now sheet) scene) scene at (now s) i (spec.unknownsAt scene at (now s)) ⌝ }
-    ensures { λ _. ⌜ spec.SixColumns (sceneOf (now (sheet .entry)) scene) scene at (now (s .entry)) (now (s .exit)) i k ⌝ }
-{
-    for e in 0usize..6 {
-        anew_column(sheet, scene, s, at, i, k + e);
-    }
-}
-
-// The same, and body i put back.
 fn body_columns(sheet: &[u8], scene: Scene, s: &mut [f64], at: SlopeParts, i: usize, k: usize)
     requires { ⌜ Laid (now sheet) scene ⌝ }
     requires { ⌜ spec.Apart scene at (length (now s)) ⌝ }
     requires { ⌜ (i < scene .m) × (k + 6 ≤ scene .n) ⌝ }
     requires { ⌜ getD (definitions.layout (sceneOf (now sheet) scene)) i none ≡ some k ⌝ }
-    requires { ⌜ spec.Standing (sceneOf (now sheet) scene) scene at (now s) (spec.unknownsAt scene at (now s)) ⌝ }
-    ensures { λ _. ⌜ spec.BodyColumns (sceneOf (now (sheet .entry)) scene) scene at (now (s .entry)) (now (s .exit)) k (k + 6) ⌝ }
+    requires { ⌜ spec.Standing (sceneOf (now sheet) scene) scene at (now s) k ⌝ }
+    ensures { λ _. ⌜ spec.ColumnsFrom (sceneOf (now (sheet .entry)) scene) scene at (now (s .entry)) (now (s .exit)) k (k + 6) ⌝ }
 {
-    six_columns(sheet, scene, s, at, i, k);
-    anew_rows(sheet, scene, s, at, at.ahead, i);
-    anew_rows(sheet, scene, s, at, at.behind, i);
+    let b = body_at(sheet, scene.bodies + 136 * i);
+    let x = six_at(s, at.x + k);
+    let mut moved = [0.0; 144];
+    let steps = moved_poses(&mut moved, b, x);
+    named_columns(
+        sheet,
+        scene,
+        s,
+        at.poses,
+        i,
+        &moved,
+        steps,
+        at.slopes + k,
+        scene.n,
+    );
 }
 
 // The columns of body i, none where it has no unknowns.
@@ -143,8 +125,8 @@ fn anew_body(sheet: &[u8], scene: Scene, s: &mut [f64], at: SlopeParts, i: usize
     requires { ⌜ Laid (now sheet) scene ⌝ }
     requires { ⌜ spec.Apart scene at (length (now s)) ⌝ }
     requires { ⌜ i < scene .m ⌝ }
-    requires { ⌜ spec.Standing (sceneOf (now sheet) scene) scene at (now s) (spec.unknownsAt scene at (now s)) ⌝ }
-    ensures { λ _. ⌜ spec.BodyColumns (sceneOf (now (sheet .entry)) scene) scene at (now (s .entry)) (now (s .exit)) (spec.given (sceneOf (now (sheet .entry)) scene) i) (spec.given (sceneOf (now (sheet .entry)) scene) (i + 1)) ⌝ }
+    requires { ⌜ spec.Standing (sceneOf (now sheet) scene) scene at (now s) (spec.given (sceneOf (now sheet) scene) i) ⌝ }
+    ensures { λ _. ⌜ spec.ColumnsFrom (sceneOf (now (sheet .entry)) scene) scene at (now (s .entry)) (now (s .exit)) (spec.given (sceneOf (now (sheet .entry)) scene) i) (spec.given (sceneOf (now (sheet .entry)) scene) (i + 1)) ⌝ }
 {
     let first = scene.index[i];
     if first == 0xFFFF {
@@ -154,25 +136,14 @@ fn anew_body(sheet: &[u8], scene: Scene, s: &mut [f64], at: SlopeParts, i: usize
     body_columns(sheet, scene, s, at, i, k);
 }
 
-// The copy of the unknowns, the poses and both rows there.
-fn start(sheet: &[u8], scene: Scene, s: &mut [f64], at: SlopeParts)
-    requires { ⌜ Laid (now sheet) scene ⌝ }
-    requires { ⌜ spec.Apart scene at (length (now s)) ⌝ }
-    ensures { λ _. ⌜ spec.Started (sceneOf (now (sheet .entry)) scene) scene at (now (s .entry)) (now (s .exit)) ⌝ }
-{
-    copy(s, at.x, at.next, scene.n);
-    poses_at(sheet, scene, s, at.x, at.poses);
-    residuals(sheet, scene, s, at.poses, at.ahead);
-    copy(s, at.ahead, at.behind, scene.rows);
-}
-
-// The slopes of the rows at the unknowns. Below the copy nothing else changes.
+// The slopes of the rows at the unknowns. Below the poses nothing else changes.
 pub fn slopes(sheet: &[u8], scene: Scene, s: &mut [f64], at: SlopeParts)
     requires { ⌜ Laid (now sheet) scene ⌝ }
     requires { ⌜ spec.Apart scene at (length (now s)) ⌝ }
-    ensures { λ _. ⌜ Slopes (sceneOf (now (sheet .entry)) scene) (now (s .entry)) (now (s .exit)) (at .slopes) (scene .n) (scene .rows) (at .x) (at .next) ⌝ }
+    ensures { λ _. ⌜ Slopes (sceneOf (now (sheet .entry)) scene) (now (s .entry)) (now (s .exit)) (at .slopes) (scene .n) (scene .rows) (at .x) (at .poses) ⌝ }
 {
-    start(sheet, scene, s, at);
+    clear(s, at.slopes, scene.rows * scene.n);
+    poses_at(sheet, scene, s, at.x, at.poses);
     let m = scene.m;
     for i in 0..m {
         anew_body(sheet, scene, s, at, i);

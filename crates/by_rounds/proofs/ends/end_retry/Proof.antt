@@ -34,7 +34,7 @@ copy-requires c κs =
     let choice = c .before .before .before .before in
     let o = choice .before .before .before .before in
     let a = arranged-same (choice .better .ensures .size) (o .pre .1) in
-    (omega (arith, a .first), omega (arith, a .first, a .x, a .slopes, a .matrix, a .weights, a .damped, a .right, a .rows, a .next, a .ahead, a .behind, a .poses))
+    (omega (arith, a .first), omega (arith, a .first, a .x, a .slopes, a .matrix, a .weights, a .damped, a .right, a .rows, a .next, a .ahead, a .poses))
 
 worked-requires-2 : tie.Need-worked-requires-2
 worked-requires-2 c κs =

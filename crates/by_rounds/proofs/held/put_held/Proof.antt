@@ -14,7 +14,7 @@ copy-over-requires : tie.Need-copy-over-requires
 copy-over-requires c κs =
     let o = c .before .before .before in
     let a = o .pre .0 in
-    (omega (arith, a .x, a .slopes, a .matrix, a .weights, a .damped, a .right, a .rows, a .next, a .ahead, a .behind, a .poses), simp length-set (omega arith))
+    (omega (arith, a .x, a .slopes, a .matrix, a .weights, a .damped, a .right, a .rows, a .next, a .ahead, a .poses), simp length-set (omega arith))
 
 add-copy-over : tie.Need-add-copy-over
 add-copy-over c = search needs
@@ -26,7 +26,7 @@ copy-over-requires-2 c κs =
     let a = o .pre .0 in
     let e = x .copy-over .ensures .kept .size in
     let z = length-set (o .args .state .now) 0 (o .args .mu) in
-    (omega (arith, a .first, a .x, a .slopes, a .matrix, a .weights, a .damped, a .right, a .rows, a .next, a .ahead, a .behind, a .poses), omega arith)
+    (omega (arith, a .first, a .x, a .slopes, a .matrix, a .weights, a .damped, a .right, a .rows, a .next, a .ahead, a .poses), omega arith)
 
 mul-copy-over : tie.Need-mul-copy-over
 mul-copy-over c = search needs
@@ -42,7 +42,7 @@ copy-over-requires-3 c κs =
     let a = o .pre .0 in
     let e = first .copy-over2 .ensures .kept .size ∙ x .copy-over .ensures .kept .size in
     let z = length-set (o .args .state .now) 0 (o .args .mu) in
-    (omega (arith, a .rows, a .next, a .ahead, a .behind, a .poses), omega arith)
+    (omega (arith, a .rows, a .next, a .ahead, a .poses), omega arith)
 
 same-length : tie.Need-same-length
 same-length c =

@@ -35,7 +35,7 @@ put-body-requires c κs =
     let w = v .filled .kept .size in
     let h = c .before .before .loop-test .taken in
     let p = body-apart _ _ _ (l .before .before .before .before .before .body-parts .ensures) (f .1 .1 .0) in
-    (f .0, ((h, omega (arith, h, w, f .1 .1 .1)), (still-apart _ _ _ _ z p, v .poses)))
+    (f .0, ((h, omega (arith, h, w, f .1 .1 .1)), (still-apart _ _ _ _ z p, (v .poses, f .1 .0 .0))))
 
 add-i : tie.Need-add-i Inv-loop μ-loop
 add-i c = omega arith

@@ -34,14 +34,14 @@ returns c =
     let test = none .before .before in
     let read = test .before in
     let o = entry read in
-    freed-fixed _ _ (o .args .parts .poses) _ _ _ _ _ _ (read .body-at .ensures) (test .if1 .taken) (o .pre .1 .1 .1) (none .put-none .ensures)
+    freed-fixed _ _ (o .args .parts .poses) _ _ _ _ _ _ (read .body-at .ensures) (test .if1 .taken) (o .pre .1 .1 .1 .0) (none .put-none .ensures)
 
 body-square-requires : tie.Need-body-square-requires
 body-square-requires c κs =
     let test = c .before in
     let read = test .before in
     let f = entry read .pre in
-    (f .0, ((f .1 .0 .0, fixed-as _ _ false (read .body-at .ensures) (test .if1 .left)), (f .1 .1 .0, f .1 .1 .1)))
+    (f .0, ((f .1 .0 .0, fixed-as _ _ false (read .body-at .ensures) (test .if1 .left)), (f .1 .1 .0, (f .1 .1 .1 .0, f .1 .1 .1 .1))))
 
 half-size-requires : tie.Need-half-size-requires
 half-size-requires c κs = search needs

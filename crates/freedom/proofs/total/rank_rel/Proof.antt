@@ -68,7 +68,7 @@ returns-3 c =
     let rows = columns .before in
     let o = rows .before .before in
     let g = o .args in
-    rank-rel-is (g .s .now) _ _ (g .rows) (g .n) (c .rank-of .result) (o .pre) (ne-eqb _ _ (rows .if1 .left)) (ne-eqb _ _ (columns .if2 .left)) (squared .square .ensures)
+    rank-rel-is (g .s .now) _ _ (g .rows) (g .n) (c .rank-of .result) (o .pre .0) (ne-eqb _ _ (rows .if1 .left)) (ne-eqb _ _ (columns .if2 .left)) (squared .square .ensures)
     (valued .values .ensures)
     (c .rank-of .ensures)
 

@@ -1,55 +1,80 @@
--- `freedom::total::slopes` meets its contract. The loop's invariant: the first c columns are written, and nothing else below z has changed. Assumes nothing.
-use Rattle.freedom.proofs.TotalLaws.{still-apart, Columns, columns-start, columns-below, columns-part, columns-step, columns-end}
-use mathlib.Core.Path.{sym, _∙_}
+-- `freedom::total::slopes` meets its contract. The invariant: the columns of the bodies passed are written, those to come are +0, and the poses are those at the unknowns. The measure is
+-- the bodies to come. Assumes nothing.
+use mathlib.Core.Path.{_≡_, refl, _∙_}
 use Prim.Native.Nat.{_-_, _≤_}
 use native.Mathlib.Omega.{arith}
+use lib.ListN.{length}
 use Rattle.scene.specs.Scene.{sceneOf}
-use Rattle.body_freedom.specs.Dof.{scaledRows}
+use Rattle.slopes.specs.AnewSlopes.{given}
+use Rattle.slopes.proofs.AnewLaws.{given-all}
+use Rattle.freedom.proofs.TotalLaws.{still-apart}
+use Rattle.freedom.proofs.ColumnLaws.{Sloped, sloped-start, sloped-step, sloped-end}
 use Rattle.freedom.proofs.total.slopes.Statement.{statement}
 use Rattle.freedom.proofs.total.slopes.Tie as tie
 
 abbrev Inv-loop : tie.InvT-loop
-Inv-loop sheet scene s₀ parts n c₀ s c = (c ≤ scene .n) × Columns (scaledRows (sceneOf sheet scene)) s₀ s (parts .slopes) (scene .n) (scene .rows) 0 (parts .scaled) c
+Inv-loop sheet scene s₁ parts m i₁ s i = (i ≤ scene .m) × (length s ≡ length s₁) × Sloped (sceneOf sheet scene) scene parts s (given (sceneOf sheet scene) i)
 
 abbrev μ-loop : tie.MeasureT-loop
-μ-loop sheet scene s₀ parts n c₀ s c = scene .n - c
+μ-loop sheet scene s₁ parts m i₁ s i = scene .m - i
+
+scale-requires : tie.Need-scale-requires Inv-loop μ-loop
+scale-requires c κs = (c .before .before .before .pre .0, omega arith)
+
+poses-at-requires : tie.Need-poses-at-requires Inv-loop μ-loop
+poses-at-requires c κs =
+    let scaled = c .before .before .before in
+    let z = scaled .scale .ensures .kept .size in
+    (scaled .before .before .before .before .pre .0, (omega arith, omega arith))
+
+abbrev entry : tie.After-poses-at Inv-loop μ-loop → tie.Start Inv-loop μ-loop
+entry c = c .before .before .before .before .before .before .before .before
+
+-- the scratch keeps its size over the poses
+posed-size : (c : tie.After-poses-at Inv-loop μ-loop) → length (c .poses-at .last .1 .1 .0) ≡ length (entry c .args .s .now)
+posed-size c = c .poses-at .ensures .kept .size ∙ c .before .before .before .before .scale .ensures .kept .size
 
 loop-holds : tie.Need-loop-holds Inv-loop μ-loop
-loop-holds c = (omega arith, columns-start _ _ _ _ _ _ _)
+loop-holds c =
+    let posed = c .before .before in
+    let o = entry posed in
+    let g = o .args in
+    let h = o .pre .1 in
+    (omega arith, refl, sloped-start (g .sheet .now) (g .scene) (g .parts) (g .s .now) _ _ (o .pre .0) (h .0) (h .1 .0) (h .1 .1) (posed .before .before .before .before .scale .ensures) (posed .poses-at .ensures))
 
-slope-column-requires : tie.Need-slope-column-requires Inv-loop μ-loop
-slope-column-requires c κs =
-    let g = c .before .before .before .before .before .args in
+body-columns-requires : tie.Need-body-columns-requires Inv-loop μ-loop
+body-columns-requires c κs =
     let l = c .before .before .loop in
-    let f = scaledRows (sceneOf (g .sheet .now) (g .scene)) in
-    let k = l .inv .1 .size in
-    let h = c .before .before .before .before .before .pre in
-    let e = columns-below f (g .s .now) (l .s) (g .parts .slopes) (g .scene .n) (g .scene .rows) 0 (g .parts .scaled) (l .c) (omega arith) (l .inv .1) in
-    let y = columns-part f (g .s .now) (l .s) (g .parts .slopes) (g .scene .n) (g .scene .rows) 0 (g .parts .scaled) (l .c) (g .parts .next) (omega arith) (omega arith) (l .inv .1) in
-    (h .0, (omega arith, (still-apart _ _ _ _ k (h .1 .0), y ∙ h .1 .1 ∙ sym e)))
+    let posed = c .before .before .before .before .before in
+    let o = entry posed in
+    (o .pre .0, (still-apart _ _ _ _ (l .inv .1 ∙ posed-size posed) (o .pre .1 .0), (omega arith, l .inv .2 .waiting)))
 
-add-c : tie.Need-add-c Inv-loop μ-loop
-add-c c = omega arith
+add-i : tie.Need-add-i Inv-loop μ-loop
+add-i c = omega arith
 
 loop-less : tie.Need-loop-less Inv-loop μ-loop
 loop-less c = omega arith
 
 loop-again : tie.Need-loop-again Inv-loop μ-loop
 loop-again c =
-    let g = c .before .before .before .before .before .before .before .before .args in
     let l = c .before .before .before .before .before .loop in
-    let f = scaledRows (sceneOf (g .sheet .now) (g .scene)) in
-    (omega arith, columns-step f (g .s .now) (l .s) _ (g .parts .slopes) (g .scene .n) (g .scene .rows) 0 (g .parts .scaled) (l .c) (omega arith) (omega arith) (l .inv .1) (c .before .before .slope-column .ensures))
+    let o = entry (c .before .before .before .before .before .before .before .before) in
+    let g = o .args in
+    let y = c .before .before .body-columns .ensures in
+    (omega arith, y .size ∙ l .inv .1, sloped-step (sceneOf (g .sheet .now) (g .scene)) (g .scene) (g .parts) _ (o .pre .1 .0) (l .s) _ _ _ y (l .inv .2))
 
 same-length : tie.Need-same-length Inv-loop μ-loop
-same-length c = c .before .loop .inv .1 .size
+same-length c = c .before .loop .inv .1 ∙ posed-size (c .before .before .before .before)
 
 returns : tie.Need-returns Inv-loop μ-loop
 returns c =
-    let g = c .before .before .before .before .args in
     let l = c .before .loop in
-    let f = scaledRows (sceneOf (g .sheet .now) (g .scene)) in
-    columns-end f (g .s .now) (l .s) (g .parts .slopes) (g .scene .n) (g .scene .rows) 0 (g .parts .scaled) (l .c) (omega arith) (omega arith) (omega arith) (l .inv .1)
+    let posed = c .before .before .before .before in
+    let o = entry posed in
+    let g = o .args in
+    let sc = sceneOf (g .sheet .now) (g .scene) in
+    let e : l .i ≡ g .scene .m = omega arith in
+    sloped-end sc (g .scene) (g .parts) (g .s .now) (l .s) (given sc (l .i)) (o .pre .1 .0) (o .pre .1 .1 .0) (l .inv .1 ∙ posed-size posed) (given-all (g .sheet .now) (g .scene) (l .i) (o .pre .0) e) (l .inv .2)
 
 pub slopes-spec : {M : Type 1} → statement M
 slopes-spec =
@@ -57,9 +82,11 @@ slopes-spec =
     (tie.spec
     Inv-loop
     μ-loop
+    scale-requires
+    poses-at-requires
     loop-holds
-    slope-column-requires
-    add-c
+    body-columns-requires
+    add-i
     loop-less
     loop-again
     same-length

@@ -1,6 +1,6 @@
--- `freedom::total::total`: the unknowns and their copy are cleared, the rest is lent from the unknowns on to slope filling and from the slopes on to the rank, and the free bodies that no
+-- `freedom::total::total`: the unknowns and the slopes are cleared, all is lent from the unknowns on to slope filling and from the slopes on to the rank, and the free bodies that no
 -- relation names are counted. The parts are apart at entry (`apart`) and once all is cleared (`cleared`); the sum is the definition's (`total-of`), in both branches. Assumes nothing.
-use Rattle.freedom.proofs.TotalLaws.{total-apart, still-apart, slopes-ready, total-is}
+use Rattle.freedom.proofs.TotalLaws.{total-apart, still-apart, slopes-ready, lent-finite, total-is}
 use mathlib.Core.Path.{_≡_, _∙_}
 use Prim.Native.Nat.{_+_, _-_, min}
 use native.Mathlib.Omega.{arith}
@@ -31,12 +31,12 @@ total-of : (c : tie.After-unnamed)
 total-of c =
     let ranked = c .before .before .before in
     let sloped = ranked .before .before .before .before in
-    let copied = sloped .before .before .before .before in
-    let first = copied .before .before .before .before in
+    let second = sloped .before .before .before .before in
+    let first = second .before .before .before .before in
     let parts = first .before .before in
     let o = parts .before .before .before in
     let g = o .args in
-    total-is (g .sheet .now) (g .scene) _ (g .s .now) _ _ _ (ranked .rank-rel .result) (c .unnamed .result) (o .pre .0) (apart parts) (first .clear .ensures) (copied .clear2 .ensures)
+    total-is (g .sheet .now) (g .scene) _ (g .s .now) _ _ _ (ranked .rank-rel .result) (c .unnamed .result) (o .pre .0) (apart parts) (first .clear .ensures) (second .clear2 .ensures)
     (sloped .slopes .ensures)
     (ranked .rank-rel .ensures)
     (c .unnamed .ensures .0)
@@ -46,6 +46,13 @@ total-parts-requires c κs = search needs
 
 clear-requires : tie.Need-clear-requires
 clear-requires c κs = search needs
+
+mul-clear : tie.Need-mul-clear
+mul-clear c =
+    let first = c .before .before .before in
+    let h = apart (first .before .before) in
+    let k = first .clear .ensures .kept .size in
+    omega arith
 
 clear-requires-2 : tie.Need-clear-requires-2
 clear-requires-2 c κs =
@@ -68,11 +75,11 @@ part-slopes-end c = search needs
 
 slopes-requires : tie.Need-slopes-requires
 slopes-requires c κs =
-    let copied = c .before .before .before in
-    let first = copied .before .before .before .before in
+    let second = c .before .before .before in
+    let first = second .before .before .before .before in
     let parts = first .before .before in
     let o = parts .before .before .before in
-    (o .pre .0, slopes-ready (o .args .scene) _ (o .args .s .now) _ _ (apart parts) (first .clear .ensures) (copied .clear2 .ensures))
+    (o .pre .0, slopes-ready (o .args .scene) _ (o .args .s .now) _ _ (apart parts) (first .clear .ensures) (second .clear2 .ensures))
 
 mul-rank-rel : tie.Need-mul-rank-rel
 mul-rank-rel c = let h = cleared (c .before .before .before .before .before .before) in omega arith
@@ -87,7 +94,12 @@ part-rank-rel-end : tie.Need-part-rank-rel-end
 part-rank-rel-end c = search needs
 
 rank-rel-requires : tie.Need-rank-rel-requires
-rank-rel-requires c κs = let h = cleared (c .before .before .before .before .before .before .before) in simp (length-take, length-drop) (omega arith)
+rank-rel-requires c κs =
+    let sloped = c .before .before .before in
+    let copied = sloped .before .before .before .before in
+    let o = copied .before .before .before .before .before .before .before .before .before in
+    let h = cleared copied in
+    (simp (length-take, length-drop) (omega arith), (o .pre .1 .0 .0, lent-finite _ (copied .clear2 .last .0) (sloped .slopes .last .1 .1 .0) _ _ _ (simp (length-take, length-drop) (omega arith)) (sloped .slopes .ensures)))
 
 unnamed-requires : tie.Need-unnamed-requires
 unnamed-requires c κs = search needs
@@ -126,6 +138,7 @@ total-spec =
     (tie.spec
     total-parts-requires
     clear-requires
+    mul-clear
     clear-requires-2
     mul-slopes
     sub-slopes

@@ -17,18 +17,6 @@ mul-values c = omega (arith, few-entries (c .args .scene) (omega arith) (omega a
 add-values : tie.Need-add-values
 add-values c = omega (arith, few-entries (c .args .scene) (omega arith) (omega arith))
 
-add-next : tie.Need-add-next
-add-next c = omega (arith, few-entries (c .args .scene) (omega arith) (omega arith))
-
-add-scaled : tie.Need-add-scaled
-add-scaled c = omega (arith, few-entries (c .args .scene) (omega arith) (omega arith))
-
-add-ahead : tie.Need-add-ahead
-add-ahead c = omega (arith, few-entries (c .args .scene) (omega arith) (omega arith))
-
-add-behind : tie.Need-add-behind
-add-behind c = omega (arith, few-entries (c .args .scene) (omega arith) (omega arith))
-
 add-poses : tie.Need-add-poses
 add-poses c = omega (arith, few-entries (c .args .scene) (omega arith) (omega arith))
 
@@ -36,4 +24,4 @@ returns : tie.Need-returns
 returns c = search needs
 
 pub total-parts-spec : {M : Type 1} → statement M
-total-parts-spec = tie.close (tie.spec mul-square add-square mul-values add-values add-next add-scaled add-ahead add-behind add-poses returns)
+total-parts-spec = tie.close (tie.spec mul-square add-square mul-values add-values add-poses returns)

@@ -8,7 +8,8 @@ use lib.Ieee.{Float, binary64, add}
 use Rattle.numbers.specs.Double.{zero64}
 use Rattle.numbers.specs.Ops.{doubles}
 use Rattle.numbers.specs.Zeros.{sumOver}
-use Rattle.least_squares.proofs.ColumnLaws.{column-below, columns-few, weightedTerm, over-step, gram-columns}
+use Rattle.least_squares.proofs.ColumnLaws.{column-below, weightedTerm, gram-columns}
+use Rattle.numbers.proofs.ListedLaws.{over-step}
 use Rattle.least_squares.proofs.lm.gram.Statement.{statement}
 use Rattle.least_squares.proofs.lm.gram.Tie as tie
 
@@ -22,18 +23,18 @@ loop-holds : tie.Need-loop-holds Inv-loop μ-loop
 unfolding sumOver
 loop-holds c = (omega arith, refl)
 
--- the list is not longer than the row, and the column is one of the row's
+-- the column is one of the row's
 inside : (c : tie.In-loop Inv-loop μ-loop) → let g = c .before .before .args in (g .m ≤ g .n) × (getD (g .list .now) (c .before .loop .j) 0 < g .n)
 inside c =
     let g = c .before .before .args in
-    let r = c .before .before .pre .1 .1 .0 in
-    (columns-few (g .s .now) (g .i) (g .n) (g .list .now) (g .m) r, column-below (g .s .now) (g .i) (g .n) (g .list .now) (g .m) (c .before .loop .j) r (omega arith))
+    let q = c .before .before .pre .1 in
+    (q .1 .0 .few, column-below (g .s .now) (g .i) (g .n) (g .list .now) (g .m) (c .before .loop .j) (q .0 .1) (q .1 .0) (omega arith))
 
 mul-c : tie.Need-mul-c Inv-loop μ-loop
 mul-c c = omega (arith, inside c)
 
-element-copy-out-c : tie.Need-element-copy-out-c Inv-loop μ-loop
-element-copy-out-c c = omega (arith, inside c)
+shared-slice-read-c : tie.Need-shared-slice-read-c Inv-loop μ-loop
+shared-slice-read-c c = omega (arith, inside (c .before))
 
 add-t : tie.Need-add-t Inv-loop μ-loop
 add-t c = omega (arith, inside (c .before))
@@ -74,7 +75,7 @@ loop-again c =
     let g = st .before .args in
     let f = weightedTerm (g .s .now) (g .k) (g .i) (g .w) in
     let r = st .before .pre .1 .1 .0 in
-    (omega arith, ap (λ (x : Float). add binary64 x (f (getD (g .list .now) (st .loop .j) 0))) (st .loop .inv .1) ∙ sym (over-step f (g .list .now) (st .loop .j) (let z = r .count in omega arith)))
+    (omega arith, ap (λ (x : Float). add binary64 x (f (getD (g .list .now) (st .loop .j) 0))) (st .loop .inv .1) ∙ sym (over-step f (g .list .now) (st .loop .j) (let z = r .few in omega arith)))
 
 returns : tie.Need-returns Inv-loop μ-loop
 returns c =
@@ -92,7 +93,7 @@ gram-spec =
     μ-loop
     loop-holds
     mul-c
-    element-copy-out-c
+    shared-slice-read-c
     add-t
     mul-t
     shared-slice-read-t

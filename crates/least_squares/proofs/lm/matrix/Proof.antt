@@ -1,12 +1,12 @@
 -- `least_squares::lm::matrix` meets its contract. The invariant: the first i rows up to the diagonal are the definition's for the slopes and weights at entry, and nothing outside
 -- the triangle is changed, so that the next row has the same slopes and weights (`lower-step`). From all rows the whole matrix is read (`lower-all`). The measure is the
 -- rows to come. Assumes nothing.
-use mathlib.Core.Path.{_≡_, refl, sym, subst}
+use mathlib.Core.Path.{_≡_, refl, sym, subst, _∙_}
 use Prim.Native.Nat.{ℕ, _+_, _*_, _≤_, _-_}
 use native.Mathlib.Nat.{not-suc-le-zero}
 use native.Mathlib.Omega.{arith}
 use lib.ListN.{length}
-use Rattle.least_squares.specs.Columns.{FiniteAt}
+use Rattle.least_squares.specs.Filled.{FiniteAt}
 use Rattle.least_squares.specs.Lm.{normalAt}
 use Rattle.least_squares.specs.Memory.{part, Kept}
 use Rattle.least_squares.specs.Triangle.{triangle}
@@ -53,6 +53,9 @@ inside c =
 add-matrix-row : tie.Need-add-matrix-row Inv-loop μ-loop
 add-matrix-row c = let e = c .places2 .ensures in omega (arith, inside (c .before .before))
 
+slice-aggregate-matrix-row : tie.Need-slice-aggregate-matrix-row Inv-loop μ-loop
+slice-aggregate-matrix-row c = let z = c .before .before .before .before .loop .inv .4 in omega arith
+
 matrix-row-requires : tie.Need-matrix-row-requires Inv-loop μ-loop
 matrix-row-requires c κs =
     let st = c .before .before .before .before in
@@ -65,7 +68,7 @@ matrix-row-requires c κs =
     let e = c .before .places2 .ensures in
     let z = kept .size in
     let i = inside (c .before .before .before) in (
-      (omega arith, omega arith, st .loop .inv .4),
+      (omega arith, omega arith, let z = st .loop .inv .4 in omega arith),
       (
         omega (arith, i),
         (
@@ -89,11 +92,12 @@ loop-less c = omega arith
 
 loop-again : tie.Need-loop-again Inv-loop μ-loop
 loop-again c =
-    let st = c .before .before .before .before .before .before .before in
+    let made = c .before .before .before in
+    let st = made .before .before .before .before .before in
     let g = st .before .before .before .args in
-    let row = rw (c .before .before .before .before .places2 .ensures, st .loop .inv .1) at (c .before .before .matrix-row .ensures .0) in
-    let r = lower-step (g .s .now) (st .loop .s) (c .before .before .matrix-row .last .0) (st .loop .i) (g .n) (g .rows) (g .rows * g .n) (g .rows * g .n + triangle (g .rows)) (omega arith) (omega arith) (omega arith) (st .loop .inv .2) (st .loop .inv .3) row in
-    (omega arith, st .loop .inv .1, r .0, r .1, c .before .before .matrix-row .ensures .1)
+    let row = rw (made .before .before .places2 .ensures, st .loop .inv .1) at (made .matrix-row .ensures) in
+    let r = lower-step (g .s .now) (st .loop .s) (made .matrix-row .last .0) (st .loop .i) (g .n) (g .rows) (g .rows * g .n) (g .rows * g .n + triangle (g .rows)) (omega arith) (omega arith) (omega arith) (st .loop .inv .2) (st .loop .inv .3) row in
+    (omega arith, st .loop .inv .1, r .0, r .1, made .matrix-row .kept .1 .1 .1 .1 .1 .0 ∙ st .loop .inv .4)
 
 same-length : tie.Need-same-length Inv-loop μ-loop
 same-length c = c .before .loop .inv .2 .size
@@ -117,6 +121,7 @@ matrix-spec =
     loop-holds
     places-requires-2
     add-matrix-row
+    slice-aggregate-matrix-row
     matrix-row-requires
     add-i
     loop-less

@@ -6,7 +6,7 @@ use native.Mathlib.Nat.{not-suc-le-zero}
 use native.Mathlib.Omega.{arith}
 use lib.Ieee.{nan}
 use lib.ListN.{length, getD}
-use Rattle.least_squares.specs.Columns.{Columns}
+use Rattle.least_squares.specs.Filled.{Filled}
 use Rattle.least_squares.specs.Lm.{gramAt}
 use Rattle.least_squares.specs.Memory.{Kept}
 use Rattle.least_squares.proofs.MemoryLaws.{kept-refl, kept-at-below}
@@ -17,7 +17,7 @@ use Rattle.least_squares.proofs.lm.matrix_row.Tie as tie
 
 abbrev Inv-loop : tie.InvT-loop
 Inv-loop s₀ i at n w list row m k₀ k-end s k =
-    (k ≤ i + 1) × (k-end ≡ i + 1) × (row ≡ i * n) × Kept s₀ s at (at + (i + 1)) × ((j : ℕ) → j < k → getD s (at + j) nan ≡ gramAt s₀ (j * n) (i * n) w n) × Columns s₀ (i * n) n list m × (length list ≡ 384)
+    (k ≤ i + 1) × (k-end ≡ i + 1) × (row ≡ i * n) × Kept s₀ s at (at + (i + 1)) × ((j : ℕ) → j < k → getD s (at + j) nan ≡ gramAt s₀ (j * n) (i * n) w n) × Filled s₀ (i * n) 1 n list m × (n ≤ length list)
 
 abbrev μ-loop : tie.MeasureT-loop
 μ-loop s₀ i at n w list row m k₀ k-end s k = i + 1 - k
@@ -25,23 +25,26 @@ abbrev μ-loop : tie.MeasureT-loop
 mul-row : tie.Need-mul-row Inv-loop μ-loop
 mul-row c = omega arith
 
-columns-requires : tie.Need-columns-requires Inv-loop μ-loop
-columns-requires c κs = (omega arith, (omega arith, c .before .before .before .pre .0 .2))
+filled-requires : tie.Need-filled-requires Inv-loop μ-loop
+filled-requires c κs =
+    let o = c .before .before .before .before in
+    let few = o .pre .0 .2 in
+    ((λ q h. omega arith), omega arith)
 
 add-k-end : tie.Need-add-k-end Inv-loop μ-loop
 add-k-end c = omega arith
 
 loop-holds : tie.Need-loop-holds Inv-loop μ-loop
-loop-holds c = (omega arith, refl, refl, kept-refl _ _ _, (λ j l. absurd (not-suc-le-zero l)), c .columns .ensures .0, c .columns .ensures .1)
+loop-holds c = (omega arith, refl, refl, kept-refl _ _ _, (λ j l. absurd (not-suc-le-zero l)), c .before .before .filled .ensures, let z = c .before .before .filled .kept .1 .1 .1 .1 .0 in let f = c .before .before .before .before .before .before .before .pre .0 .2 in omega arith)
 
 -- row k of the slopes ends where row i does, at the latest, and the scratch is as long as at entry
 fits : (c : tie.In-loop Inv-loop μ-loop)
     → let l = c .before .loop in
-    let g = c .before .before .before .before .before .before .args in
+    let g = c .before .before .before .before .before .before .before .before .before .args in
     (l .k * g .n + g .n ≤ (g .i + 1) * g .n) × (g .i * g .n + g .n ≡ (g .i + 1) * g .n) × (length (l .s) ≡ length (g .s .now))
 fits c =
     let l = c .before .loop in
-    let g = c .before .before .before .before .before .before .args in
+    let g = c .before .before .before .before .before .before .before .before .before .args in
     (row-fits (l .k) (g .n) (g .i + 1) (omega arith), omega arith, l .inv .3 .size)
 
 mul-gram : tie.Need-mul-gram Inv-loop μ-loop
@@ -50,7 +53,7 @@ mul-gram c = omega (arith, fits (c .before))
 gram-requires : tie.Need-gram-requires Inv-loop μ-loop
 gram-requires c κs =
     let st = c .before .before .before in
-    let e = st .before .before .before .before .before in
+    let e = st .before .before .before .before .before .before .before .before in
     let g = e .args in
     let o = g .s .now in
     let s = st .loop .s in
@@ -88,7 +91,7 @@ loop-less c = omega arith
 loop-again : tie.Need-loop-again Inv-loop μ-loop
 loop-again c =
     let st = c .before .before .before .before in
-    let g = st .before .before .before .before .before .args in
+    let g = st .before .before .before .before .before .before .before .before .args in
     let o = g .s .now in
     let s = st .loop .s in
     let k = st .loop .k in
@@ -101,11 +104,14 @@ loop-again c =
 same-length : tie.Need-same-length Inv-loop μ-loop
 same-length c = c .before .loop .inv .3 .size
 
+same-length-2 : tie.Need-same-length-2 Inv-loop μ-loop
+same-length-2 c = c .before .before .before .before .filled .kept .1 .1 .1 .1 .0
+
 returns : tie.Need-returns Inv-loop μ-loop
 returns c =
     let st = c .before in
-    let e : st .loop .k ≡ st .before .before .before .before .before .args .i + 1 = omega arith in
-    (record { entries = λ k h. st .loop .inv .4 k (omega arith); kept = st .loop .inv .3 }, st .loop .inv .6)
+    let e : st .loop .k ≡ st .before .before .before .before .before .before .before .before .args .i + 1 = omega arith in
+    record { entries = λ k h. st .loop .inv .4 k (omega arith); kept = st .loop .inv .3 }
 
 pub matrix-row-spec : {M : Type 1} → statement M
 matrix-row-spec =
@@ -114,7 +120,7 @@ matrix-row-spec =
     Inv-loop
     μ-loop
     mul-row
-    columns-requires
+    filled-requires
     add-k-end
     loop-holds
     mul-gram
@@ -126,4 +132,5 @@ matrix-row-spec =
     loop-less
     loop-again
     same-length
+    same-length-2
     returns)

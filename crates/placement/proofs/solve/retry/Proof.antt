@@ -59,7 +59,7 @@ copy-requires-2 c κs =
     let ran = choice .before .before .before .before in
     let o = ran .before .before .before .before .before .before .before .before .before .before .before .before in
     let a = arranged-same (choice .better .ensures .size ∙ again ran .size) (o .pre .1 .0) in
-    (omega (arith, a .first), omega (arith, a .first, a .x, a .slopes, a .matrix, a .weights, a .damped, a .right, a .rows, a .next, a .ahead, a .behind, a .poses))
+    (omega (arith, a .first), omega (arith, a .first, a .x, a .slopes, a .matrix, a .weights, a .damped, a .right, a .rows, a .next, a .ahead, a .poses))
 
 same-length-2 : tie.Need-same-length-2
 same-length-2 c = search needs

@@ -50,23 +50,11 @@ add-next c = omega (arith, products (c .before .args .scene) (omega arith) (omeg
 add-ahead : tie.Need-add-ahead
 add-ahead c = omega (arith, products (c .before .args .scene) (omega arith) (omega arith), few c)
 
-add-behind : tie.Need-add-behind
-add-behind c = omega (arith, products (c .before .args .scene) (omega arith) (omega arith), few c)
-
 add-poses : tie.Need-add-poses
 add-poses c = omega (arith, products (c .before .args .scene) (omega arith) (omega arith), few c)
 
-sub-t15 : tie.Need-sub-t15
-sub-t15 c = omega (arith, products (c .before .args .scene) (omega arith) (omega arith), few c)
-
-sub-t16 : tie.Need-sub-t16
-sub-t16 c = omega (arith, products (c .before .args .scene) (omega arith) (omega arith), few c)
-
-sub-t17 : tie.Need-sub-t17
-sub-t17 c = omega (arith, products (c .before .args .scene) (omega arith) (omega arith), few c)
-
-sub-t18 : tie.Need-sub-t18
-sub-t18 c = omega (arith, products (c .before .args .scene) (omega arith) (omega arith), few c)
+sub-t14 : tie.Need-sub-t14
+sub-t14 c = omega (arith, products (c .before .args .scene) (omega arith) (omega arith), few c)
 
 returns : tie.Need-returns
 returns c = rw (c .places .ensures)
@@ -86,10 +74,6 @@ solve-parts-spec =
     add-at
     add-next
     add-ahead
-    add-behind
     add-poses
-    sub-t15
-    sub-t16
-    sub-t17
-    sub-t18
+    sub-t14
     returns)

@@ -25,7 +25,7 @@ withMatrix c =
 
 sloped : (c : tie.After-slopes)
     → let g = c .before .before .before .before .args in
-    Slopes (sceneOf (g .sheet .now) (g .scene)) (g .s .now) (withSlopes c) (g .p .slopes) (g .scene .n) (g .scene .rows) (g .p .x) (g .p .next)
+    Slopes (sceneOf (g .sheet .now) (g .scene)) (g .s .now) (withSlopes c) (g .p .slopes) (g .scene .n) (g .scene .rows) (g .p .x) (g .p .poses)
 sloped c =
     let o = c .before .before .before .before in
     let g = o .args in

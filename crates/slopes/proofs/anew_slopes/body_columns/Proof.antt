@@ -1,55 +1,87 @@
--- `slopes::anew_slopes::body_columns` meets its contract: with the copy as it was, both rows worked anew for body i are those at the unknowns. Assumes nothing.
-use mathlib.Core.Path.{_∙_}
+-- `slopes::anew_slopes::body_columns` meets its contract: the body read from the sheet and its six unknowns are the definition's, so the poses that are made are the body's a step ahead
+-- and a step behind (`moved-as`), and the slopes of the rows there are the body's columns (`body-columns-is`). Assumes nothing.
+use Prim.Native.Nat.{_+_, _*_}
 use native.Mathlib.Omega.{arith}
-use Rattle.scene.specs.Scene.{sceneOf}
-use Rattle.slopes.proofs.AnewLaws.{apart-same, standing-anew, six-anew, back-anew, body-columns-is}
+use borrow.Author.Needs.{needs}
+use Rattle.records.specs.Record.{bodyAt}
+use Rattle.slopes.specs.AnewSlopes.{MovedPoses}
+use Rattle.slopes.proofs.BodyLaws.{moved-as, moved-steps, columns-clear, body-columns-is}
 use Rattle.slopes.proofs.anew_slopes.body_columns.Statement.{statement}
 use Rattle.slopes.proofs.anew_slopes.body_columns.Tie as tie
 
-six-columns-requires : tie.Need-six-columns-requires
-six-columns-requires c κs =
-    let o = c .before .before .before in
-    let g = o .args in
-    (o .pre .0, (o .pre .1 .0, (o .pre .1 .1 .0, (o .pre .1 .1 .1 .0, standing-anew (sceneOf (g .sheet .now) (g .scene)) (g .scene) (g .at) (g .s .now) (g .i) _ (o .pre .1 .1 .1 .1)))))
+mul-body-at : tie.Need-mul-body-at
+mul-body-at c = search needs
 
-anew-rows-requires : tie.Need-anew-rows-requires
-anew-rows-requires c κs =
-    let six = c .before .before .before in
-    let o = six .before .before .before .before in
-    let g = o .args in
-    let a = o .pre .1 .0 in
-    let h = o .pre .1 .1 .0 in (
-      o .pre .0,
-      (apart-same (six .six-columns .ensures .columns .size) a, (h .0, ((omega arith, omega arith), six-anew (sceneOf (g .sheet .now) (g .scene)) (g .scene) (g .at) (g .s .now) _ (g .s .now) _ (g .i) (g .k) a (h .1) (six .six-columns .ensures)))),
-    )
+add-body-at : tie.Need-add-body-at
+add-body-at c = search needs
 
-anew-rows-requires-2 : tie.Need-anew-rows-requires-2
-anew-rows-requires-2 c κs =
-    let ahead = c .before .before .before in
-    let six = ahead .before .before .before .before in
-    let o = six .before .before .before .before in
+body-at-requires : tie.Need-body-at-requires
+body-at-requires c κs = search needs
+
+add-six-at : tie.Need-add-six-at
+add-six-at c = search needs
+
+six-at-requires : tie.Need-six-at-requires
+six-at-requires c κs = search needs
+
+slice-aggregate-moved-poses : tie.Need-slice-aggregate-moved-poses
+slice-aggregate-moved-poses c = search needs
+
+moved-poses-requires : tie.Need-moved-poses-requires
+moved-poses-requires c κs = search needs
+
+-- the poses made are those of the body in the sheet
+made : (c : tie.After-moved-poses)
+    → let g = c .before .before .before .before .before .before .before .before .before .args in
+    MovedPoses (bodyAt (g .sheet .now) (g .scene .bodies + 136 * g .i)) (c .before .before .six-at .result) (c .moved-poses .last .0) (c .moved-poses .result) 6
+made c = moved-as _ _ _ _ _ (c .before .before .before .before .before .body-at .ensures) (c .moved-poses .ensures .poses)
+
+slice-aggregate-named-columns : tie.Need-slice-aggregate-named-columns
+slice-aggregate-named-columns c = search needs
+
+add-named-columns : tie.Need-add-named-columns
+add-named-columns c = let o = c .before .before .before .before .before .before .before .before .before .before .before .before .before in let apart = o .pre .1 .0 in omega arith
+
+named-columns-requires : tie.Need-named-columns-requires
+named-columns-requires c κs =
+    let poses = c .before .before .before .before in
+    let o = poses .before .before .before .before .before .before .before .before .before in
     let g = o .args in
-    let a = o .pre .1 .0 in
-    let h = o .pre .1 .1 .0 in (
-      o .pre .0,
-      (apart-same (ahead .anew-rows .ensures .rows-at .size ∙ six .six-columns .ensures .columns .size) a, (h .0, ((omega arith, omega arith), back-anew (sceneOf (g .sheet .now) (g .scene)) (g .scene) (g .at) (g .s .now) _ _ _ (g .i) (g .k) a (h .1) (six .six-columns .ensures) (ahead .anew-rows .ensures)))),
+    let laid = o .pre .0 in
+    let apart = o .pre .1 .0 in
+    let size = poses .moved-poses .ensures .size in (
+      laid,
+      (
+        record { body = o .pre .1 .1 .0 .0; poses = apart .poses; twelve = omega arith; wide = omega arith; below = omega arith },
+        (columns-clear (g .sheet .now) (g .scene) (g .at) (g .s .now) _ (g .i) (g .k) laid apart (o .pre .1 .1 .0 .0) (o .pre .1 .1 .0 .1) (o .pre .1 .1 .1 .0) (o .pre .1 .1 .1 .1), moved-steps _ _ _ _ (made poses)),
+      ),
     )
 
 same-length : tie.Need-same-length
-same-length c =
-    let behind = c .before .before in
-    let ahead = behind .before .before .before .before in
-    let six = ahead .before .before .before .before in
-    behind .anew-rows2 .ensures .rows-at .size ∙ ahead .anew-rows .ensures .rows-at .size ∙ six .six-columns .ensures .columns .size
+same-length c = search needs
 
 returns : tie.Need-returns
 returns c =
-    let behind = c .before .before in
-    let ahead = behind .before .before .before .before in
-    let six = ahead .before .before .before .before in
-    let o = six .before .before .before .before in
+    let columns = c .before .before in
+    let poses = columns .before .before .before .before .before in
+    let o = poses .before .before .before .before .before .before .before .before .before in
     let g = o .args in
-    body-columns-is (sceneOf (g .sheet .now) (g .scene)) (g .scene) (g .at) (g .s .now) _ _ _ (g .i) (g .k) (o .pre .1 .0) (o .pre .1 .1 .0 .1) (six .six-columns .ensures) (ahead .anew-rows .ensures) _ (behind .anew-rows2 .ensures)
+    body-columns-is (g .sheet .now) (g .scene) (g .at) (g .s .now) _ (g .i) (g .k) (o .pre .0) (o .pre .1 .0) (o .pre .1 .1 .0 .0) (o .pre .1 .1 .0 .1) (o .pre .1 .1 .1 .0) (o .pre .1 .1 .1 .1)
+    _ _ _ (poses .before .before .six-at .ensures) (made poses) _ (columns .named-columns .ensures)
 
 pub body-columns-spec : {M : Type 1} → statement M
-body-columns-spec = tie.close (tie.spec six-columns-requires anew-rows-requires anew-rows-requires-2 same-length returns)
+body-columns-spec =
+    tie.close
+    (tie.spec
+    mul-body-at
+    add-body-at
+    body-at-requires
+    add-six-at
+    six-at-requires
+    slice-aggregate-moved-poses
+    moved-poses-requires
+    slice-aggregate-named-columns
+    add-named-columns
+    named-columns-requires
+    same-length
+    returns)
