@@ -1,5 +1,5 @@
 #!/usr/bin/env python3
-"""Writes the example sheets beside this file: python3 examples/make.py. With a folder's name it writes there, and the benchmark's three: 64 bodies, 32 bodies that jam, and 800 rows.
+"""Writes the example sheets beside this file: python3 examples/make.py. With a folder's name it writes there, and the benchmark's four: 16 bodies, 64 bodies, 32 bodies that jam, and 800 rows.
 
 The format is document 01's, with gears as request 1 has them: a header of 24 bytes, 136 bytes for a body, 264 for a relation, all little endian. Millimetres and radians.
 """
@@ -175,6 +175,11 @@ def side_by_side(count, hole=PIN):
     return sheet(bodies, relations)
 
 
+def pair():
+    """16 bodies and 32 relations: two movements side by side."""
+    return side_by_side(2)
+
+
 def full():
     """64 bodies and 128 relations: eight movements side by side."""
     return side_by_side(8)
@@ -203,7 +208,7 @@ def main():
     folder = Path(sys.argv[1]) if len(sys.argv) > 1 else Path(__file__).resolve().parent
     sheets = {"worked": worked(), "movement": sheet(*movement(0, ZERO, False)), "impossible": impossible(), "train": train()}
     if len(sys.argv) > 1:
-        sheets.update(full=full(), jammed=jammed(), rows=rows())
+        sheets.update(pair=pair(), full=full(), jammed=jammed(), rows=rows())
     for name, text in sheets.items():
         (folder / f"{name}.sheet").write_bytes(text)
         print(f"{name}.sheet: {len(text)} bytes")
