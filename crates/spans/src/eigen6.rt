@@ -8,7 +8,7 @@ ghost use Rattle.numbers.specs.Double.{zero64};
 ghost use Rattle.eigen.specs.Sort as sorting;
 ghost use Rattle.eigen.specs.Insertion as insertion;
 ghost use Rattle.eigen.specs.Eigen as eigen;
-ghost use Rattle.spans.specs.Flat.{flat, at, turnEntries};
+ghost use Rattle.spans.specs.Flat.{flat, at};
 ghost use Rattle.spans.specs.Eigen6.{eigens6, past6, lower6, rotationAt};
 use eigen::eigen::cosine;
 use eigen::eigen::tangent;
@@ -26,27 +26,6 @@ struct Rotation {
     s: f64,
 }
 
-// Turns the entries ij and kl.
-fn turn_pair(
-    m: [[f64; 6]; 6],
-    i: usize,
-    j: usize,
-    k: usize,
-    l: usize,
-    c: f64,
-    s: f64,
-) -> [[f64; 6]; 6]
-    requires { ⌜ (i < 6) × (j < 6) × (k < 6) × (l < 6) ⌝ }
-    ensures { λ r. ⌜ r ≡ turnEntries c s m i j k l ⌝ }
-{
-    let mut a = m;
-    let x = a[i][j];
-    let y = a[k][l];
-    a[i][j] = c * x - s * y;
-    a[k][l] = s * x + c * y;
-    a
-}
-
 // Turns columns p and q.
 fn turn_columns(m: [[f64; 6]; 6], n: usize, p: usize, q: usize, c: f64, s: f64) -> [[f64; 6]; 6]
     requires { ⌜ (n ≤ 6) × (p < n) × (q < n) ⌝ }
@@ -54,8 +33,10 @@ fn turn_columns(m: [[f64; 6]; 6], n: usize, p: usize, q: usize, c: f64, s: f64) 
 {
     let mut a = m;
     for k in 0..n {
-        let b = turn_pair(a, k, p, k, q, c, s);
-        a = b;
+        let x = a[k][p];
+        let y = a[k][q];
+        a[k][p] = c * x - s * y;
+        a[k][q] = s * x + c * y;
     }
     a
 }
@@ -67,8 +48,10 @@ fn turn_rows(m: [[f64; 6]; 6], n: usize, p: usize, q: usize, c: f64, s: f64) -> 
 {
     let mut a = m;
     for k in 0..n {
-        let b = turn_pair(a, p, k, q, k, c, s);
-        a = b;
+        let x = a[p][k];
+        let y = a[q][k];
+        a[p][k] = c * x - s * y;
+        a[q][k] = s * x + c * y;
     }
     a
 }
