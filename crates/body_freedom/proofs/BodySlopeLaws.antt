@@ -7,8 +7,7 @@ use Prim.Native.Nat.{ℕ, zero, suc, _+_, _*_, _≤_, _<_}
 use native.Mathlib.Omega.{arith}
 use native.Mathlib.Numerals.{add-one}
 use native.Mathlib.Nat.{not-suc-le-zero, mul-le-mul, mul-le-mul-right, mul-comm}
-use lib.ListN.{length, getD, set, drop, length-drop, length-append, length-map, List·getD-append}
-use lib.Seq.{getD-drop, drop-drop, drop-append-seam}
+use lib.ListN.{length, getD, set, drop, length-append, length-map}
 use lib.Ieee.{Float, nan, binary64, add, sub, mul, div}
 use Rattle.numbers.specs.Double.{zero64}
 use Rattle.spans.specs.Flat.{flatTo, flat}
@@ -28,8 +27,9 @@ use Rattle.least_squares.proofs.MemoryLaws.{part-length, part-at, kept-at-below
 use Rattle.least_squares.proofs.TableLaws.{length-listOf, getD-listOf, one-more, sum-same, in-rows, length-tableOf, getD-tableOf, table-ext}
 use Rattle.scene.proofs.RowCountLaws.{rows-alike}
 use Rattle.scene.proofs.SceneLaws.{Growing, growing-step, listOf-next, drop-whole, length-bodies, bodies-next, next-layout, poses-there, pose-same, pose-put}
-use Rattle.slopes.specs.Moved.{posesAhead, posesBehind, movedSlope, Block}
+use Rattle.slopes.specs.Moved.{movedSlope, Block}
 use Rattle.slopes.proofs.MovedLaws.{rel-length, block-no-rows, block-rows, block-as, block-poses}
+use Rattle.slopes.proofs.PassLaws.{RowsBy, From, from-room, from-step, from-slope, from-end}
 use Rattle.body_freedom.specs.BodySlopes.{bodyParts, BodyApart, starts, shifted, MovedPoses, sixSteps, namedRows, rowsOn, movedRows, NamedSlopes, SlopesOn, BodySlopes, BodySquare}
 use Rattle.body_freedom.specs.declared.body_slopes.BodyParts.{BodyParts as BodyPartsStruct}
 
@@ -170,56 +170,37 @@ on-fits sheet c i poses laid =
 
 -- from row r on stand the rows of the relations from j on, wherever the bodies stand
 pub record Passed (sheet : List ℕ) (c : SceneStruct) (i j r : ℕ) : Type 0 where
-  pub rest : (poses : List (Pose Float)) → drop r (rowsOn (sceneOf sheet c) i poses) ≡ restOn sheet c i poses j
-  pub among : (poses : List (Pose Float)) → r ≤ length (rowsOn (sceneOf sheet c) i poses)
+  pub rows : From (rowsOn (sceneOf sheet c) i) (λ poses. restOn sheet c i poses j) r
 
 pub passed-start : (sheet : List ℕ) (c : SceneStruct) (i : ℕ) → Passed sheet c i 0 0
-passed-start sheet c i = record { rest = λ poses. refl; among = λ poses. omega arith }
+passed-start sheet c i = record { rows = record { holds = λ poses. refl; among = λ poses. omega arith } }
 
 module _ (sheet : List ℕ) (c : SceneStruct) (i j r : ℕ) (h : j < c .k) (g : Passed sheet c i j r) where
-  abbrev one : List (Pose Float) → List Float
+  abbrev one : RowsBy
   one poses = namedRows (relAt sheet (c .rels + 264 * j)) i poses
 
-  abbrev all : List (Pose Float) → List Float
+  abbrev all : RowsBy
   all poses = rowsOn (sceneOf sheet c) i poses
 
-  passed-next : (poses : List (Pose Float)) → drop r (all poses) ≡ one poses ++ restOn sheet c i poses (suc j)
-  passed-next poses = g .rest poses ∙ on-next sheet c i poses j h
+  abbrev rest : ℕ → RowsBy
+  rest k poses = restOn sheet c i poses k
+
+  split : (poses : List (Pose Float)) → rest j poses ≡ one poses ++ rest (suc j) poses
+  split poses = on-next sheet c i poses j h
+
+  alike : (poses poses' : List (Pose Float)) → length (one poses) ≡ length (one poses')
+  alike poses poses' = named-alike (relAt sheet (c .rels + 264 * j)) i poses poses'
 
   pub passed-room : (poses poses' : List (Pose Float)) → r + length (one poses) ≤ length (all poses')
   passed-room poses poses' =
-      let a = length-drop r (all poses) in
-      let d = ap length (passed-next poses) in
-      let e = length-append (one poses) (restOn sheet c i poses (suc j)) in
-      let w = g .among poses in
-      let n = on-alike (sceneOf sheet c) i poses poses' in
+      let a = from-room all (rest j) one (rest (suc j)) r split alike (g .rows) poses' in
+      let b = alike poses poses' in
       omega arith
 
   pub passed-step : (poses : List (Pose Float)) (q : ℕ) → q ≡ r + length (one poses) → Passed sheet c i (j + 1) q
-  passed-step poses q e = record { rest = go; among = λ poses'. let w = passed-room poses poses' in omega arith }
-    where
-      go : (w : List (Pose Float)) → drop q (all w) ≡ restOn sheet c i w (j + 1)
-      go w =
-          let n : q ≡ r + length (one w) = e ∙ ap (λ (x : ℕ). r + x) (named-alike (relAt sheet (c .rels + 264 * j)) i poses w) in
-          ap (λ (x : ℕ). drop x (all w)) n ∙ sym (drop-drop (length (one w)) r (all w)) ∙ ap (drop (length (one w))) (passed-next w)
-          ∙ drop-append-seam (one w) (restOn sheet c i w (suc j))
-          ∙ ap (restOn sheet c i w) (sym (add-one j))
-
-  passed-at : (poses : List (Pose Float)) (q : ℕ) → q < length (one poses) → getD (one poses) q nan ≡ getD (all poses) (r + q) nan
-  passed-at poses q l =
-      sym (List·getD-append (one poses) (restOn sheet c i poses (suc j)) nan q l) ∙ ap (λ (w : List Float). getD w q nan) (sym (passed-next poses))
-      ∙ getD-drop r (all poses) q nan
-
-  -- the slopes of the relation's rows are those of the rows from r on
-  passed-slope : (poses poses' : List (Pose Float)) (moved steps : List Float) (q e : ℕ) → poses' ≡ poses → q < length (one poses')
-      → movedSlope one poses' i moved steps q e ≡ movedSlope all poses i moved steps (r + q) e
-  passed-slope poses poses' moved steps q e same l =
-      let a = posesAhead poses' i moved e in
-      let b = posesBehind poses' i moved e in
-      let rel = relAt sheet (c .rels + 264 * j) in
-      let x = passed-at a q (rw (named-alike rel i a poses') l) in
-      let y = passed-at b q (rw (named-alike rel i b poses') l) in
-      (λ z. slopeOf (x z) (y z) (getD steps e nan)) ∙ ap (λ (w : List (Pose Float)). movedSlope all w i moved steps (r + q) e) same
+  passed-step poses q e =
+      subst (Passed sheet c i (j + 1)) (sym e)
+      (subst (λ (k : ℕ). Passed sheet c i k (r + length (one poses))) (sym (add-one j)) (record { rows = from-step all (rest j) one (rest (suc j)) r split alike (g .rows) poses (length (one poses)) refl }))
 
   pub passed-slopes : (s t u moved steps : List Float) (p q : ℕ) → r * 6 ≤ p → Block s t 0 6 r 6 (movedSlope all (posesIn s p (c .m)) i moved steps)
       → NamedSlopes t u moved steps p (c .m) i (relAt sheet (c .rels + 264 * j)) r q
@@ -229,15 +210,11 @@ module _ (sheet : List ℕ) (c : SceneStruct) (i j r : ℕ) (h : j < c .k) (g : 
       let z : r * 6 ≡ 0 + r * 6 = omega arith in
       block-as s u 0 6 _ _ 6 6 _ (sym (y .next)) refl
       (block-rows s 0 6 (movedSlope all (posesIn s p (c .m)) i moved steps) t u r (length (one (posesIn t p (c .m)))) 6 (movedSlope one (posesIn t p (c .m)) i moved steps) (omega arith)
-      (λ k e a d. passed-slope (posesIn s p (c .m)) (posesIn t p (c .m)) moved steps k e same a) b
+      (λ k e a d. from-slope all (rest j) one (rest (suc j)) r split alike (g .rows) (posesIn s p (c .m)) (posesIn t p (c .m)) i moved steps k e same a) b
       (subst (λ (o : ℕ). Block t u o 6 (length (one (posesIn t p (c .m)))) 6 (movedSlope one (posesIn t p (c .m)) i moved steps)) z (y .block)))
 
 pub passed-end : (sheet : List ℕ) (c : SceneStruct) (i : ℕ) (poses : List (Pose Float)) (j r : ℕ) → j ≡ c .k → Passed sheet c i j r → r ≡ length (rowsOn (sceneOf sheet c) i poses)
-passed-end sheet c i poses j r e g =
-    let a = length-drop r (rowsOn (sceneOf sheet c) i poses) in
-    let d = ap length (g .rest poses ∙ on-done sheet c i poses j e) in
-    let w = g .among poses in
-    omega arith
+passed-end sheet c i poses j r e g = from-end (rowsOn (sceneOf sheet c) i) (λ poses. restOn sheet c i poses j) r poses (on-done sheet c i poses j e) (g .rows)
 
 -- ---- the rows fit six to a row where the body moves
 

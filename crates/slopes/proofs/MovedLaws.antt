@@ -2,14 +2,14 @@
 -- each of its rows, and that the rows of the relations follow one another. Assumes nothing.
 use mathlib.Core.Path.{_≡_, refl, sym, ap, subst, _∙_}
 use mathlib.Core.Bool.{false}
-use mathlib.Core.List.{List, _++_}
+use mathlib.Core.List.{List, [], _++_}
 use Prim.Native.Nat.{ℕ, suc, _+_, _-_, _*_, _≤_, _<_}
 use native.Mathlib.Omega.{arith}
 use native.Mathlib.Numerals.{add-one}
 use native.Mathlib.Decide.{decLt}
 use native.Mathlib.Nat.{not-suc-le-zero, add-mul, mul-le-mul-right}
-use lib.ListN.{length, getD, set, drop, length-set, length-drop, length-append, List·getD-append, List·getD-eq-default}
-use lib.Seq.{getD-set-same, getD-set-other, getD-drop, drop-drop, drop-append-seam}
+use lib.ListN.{length, getD, set, length-set, List·getD-eq-default}
+use lib.Seq.{getD-set-same, getD-set-other}
 use lib.Ieee.{Float, nan}
 use Rattle.relations.specs.Geometry.{Pose}
 use Rattle.relations.specs.Model.{Rel}
@@ -25,9 +25,10 @@ use Rattle.scene.specs.Solve.{names, rowsAt, allRows}
 use Rattle.scene.specs.Scene.{sceneOf, Laid, relRows, poseIn, posesIn}
 use Rattle.scene.specs.declared.scene.Scene.{Scene as SceneStruct}
 use Rattle.scene.proofs.SceneLaws.{restRows, rows-next, rows-done, packed, pose-of, pose-same}
-use Rattle.slopes.specs.Moved.{posesAhead, posesBehind, movedSlope, Steps, Strided, Block, Clear, Room, RelColumns}
+use Rattle.slopes.specs.Moved.{movedSlope, Steps, Strided, Block, Clear, Room, RelColumns}
 use Rattle.slopes.proofs.SlopeLaws.{row-before, column-of}
 use Rattle.slopes.proofs.AnewLaws.{rows-other}
+use Rattle.slopes.proofs.PassLaws.{RowsBy, From, from-room, from-step, from-slope, from-end}
 
 -- ---- the pose of an end, body i's being w
 
@@ -168,59 +169,44 @@ rel-columns-is s t moved steps p m i rel rel' o n count e d b =
 
 -- from row r on stand the rows of the relations from j on, wherever the bodies stand
 pub record Passed (sheet : List ℕ) (c : SceneStruct) (j r : ℕ) : Type 0 where
-  pub rest : (poses : List (Pose Float)) → drop r (allRows poses (sceneOf sheet c .rels)) ≡ restRows sheet c poses j
-  pub among : r ≤ c .rows
+  pub rows : From (λ poses. allRows poses (sceneOf sheet c .rels)) (λ poses. restRows sheet c poses j) r
 
 pub passed-start : (sheet : List ℕ) (c : SceneStruct) → Passed sheet c 0 0
-passed-start sheet c = record { rest = λ poses. refl; among = omega arith }
+passed-start sheet c = record { rows = record { holds = λ poses. refl; among = λ poses. omega arith } }
+
+pub passed-among : (sheet : List ℕ) (c : SceneStruct) (j r : ℕ) → Laid sheet c → Passed sheet c j r → r ≤ c .rows
+passed-among sheet c j r laid g = let a = g .rows .among [] in let b = laid .row-count [] in omega arith
 
 module _ (sheet : List ℕ) (c : SceneStruct) (j r : ℕ) (laid : Laid sheet c) (h : j < c .k) (g : Passed sheet c j r) where
-  passed-next : (poses : List (Pose Float)) → drop r (allRows poses (sceneOf sheet c .rels)) ≡ relRows sheet c poses j ++ restRows sheet c poses (suc j)
-  passed-next poses = g .rest poses ∙ rows-next sheet c poses j h
+  abbrev one : RowsBy
+  one poses = relRows sheet c poses j
 
-  pub passed-room : (poses : List (Pose Float)) → r + length (relRows sheet c poses j) ≤ c .rows
+  abbrev all : RowsBy
+  all poses = allRows poses (sceneOf sheet c .rels)
+
+  split : (poses : List (Pose Float)) → restRows sheet c poses j ≡ one poses ++ restRows sheet c poses (suc j)
+  split poses = rows-next sheet c poses j h
+
+  alike : (poses poses' : List (Pose Float)) → length (one poses) ≡ length (one poses')
+  alike poses poses' = rel-length poses poses' (relAt sheet (c .rels + 264 * j))
+
+  pub passed-room : (poses : List (Pose Float)) → r + length (one poses) ≤ c .rows
   passed-room poses =
-      let a = length-drop r (allRows poses (sceneOf sheet c .rels)) in
+      let a = from-room all (λ poses. restRows sheet c poses j) one (λ poses. restRows sheet c poses (suc j)) r split alike (g .rows) poses in
       let b = laid .row-count poses in
-      let d = ap length (passed-next poses) in
-      let e = length-append (relRows sheet c poses j) (restRows sheet c poses (suc j)) in
-      let w = g .among in
       omega arith
 
-  pub passed-step : (poses : List (Pose Float)) (count : ℕ) → count ≡ length (relRows sheet c poses j) → Passed sheet c (j + 1) (r + count)
-  passed-step poses count e = record { rest = go; among = let w = passed-room poses in omega arith }
-    where
-      go : (q : List (Pose Float)) → drop (r + count) (allRows q (sceneOf sheet c .rels)) ≡ restRows sheet c q (j + 1)
-      go q =
-          let n : count ≡ length (relRows sheet c q j) = e ∙ rel-length poses q (relAt sheet (c .rels + 264 * j)) in
-          sym (drop-drop count r (allRows q (sceneOf sheet c .rels))) ∙ ap (drop count) (passed-next q)
-          ∙ ap (λ (w : ℕ). drop w (relRows sheet c q j ++ restRows sheet c q (suc j))) n
-          ∙ drop-append-seam (relRows sheet c q j) (restRows sheet c q (suc j))
-          ∙ ap (restRows sheet c q) (sym (add-one j))
+  pub passed-step : (poses : List (Pose Float)) (count : ℕ) → count ≡ length (one poses) → Passed sheet c (j + 1) (r + count)
+  passed-step poses count e =
+      subst (λ (k : ℕ). Passed sheet c k (r + count)) (sym (add-one j)) (record { rows = from-step all (λ poses. restRows sheet c poses j) one (λ poses. restRows sheet c poses (suc j)) r split alike (g .rows) poses count e })
 
-  pub passed-at : (poses : List (Pose Float)) (q : ℕ) → q < length (relRows sheet c poses j) → getD (relRows sheet c poses j) q nan ≡ getD (allRows poses (sceneOf sheet c .rels)) (r + q) nan
-  passed-at poses q l =
-      sym (List·getD-append (relRows sheet c poses j) (restRows sheet c poses (suc j)) nan q l) ∙ ap (λ (w : List Float). getD w q nan) (sym (passed-next poses))
-      ∙ getD-drop r (allRows poses (sceneOf sheet c .rels)) q nan
-
-  -- the slopes of the relation's rows are those of the rows from r on
-  pub passed-slope : (poses poses' : List (Pose Float)) (i : ℕ) (moved steps : List Float) (q e : ℕ) → poses' ≡ poses → q < length (relRows sheet c poses' j)
-      → movedSlope (λ poses. relRows sheet c poses j) poses' i moved steps q e ≡ movedSlope (λ poses. allRows poses (sceneOf sheet c .rels)) poses i moved steps (r + q) e
-  passed-slope poses poses' i moved steps q e same l =
-      let a = posesAhead poses' i moved e in
-      let b = posesBehind poses' i moved e in
-      let rel = relAt sheet (c .rels + 264 * j) in
-      let x = passed-at a q (rw (rel-length a poses' rel) l) in
-      let y = passed-at b q (rw (rel-length b poses' rel) l) in
-      (λ z. slopeOf (x z) (y z) (getD steps e nan)) ∙ ap (λ (w : List (Pose Float)). movedSlope (λ poses. allRows poses (sceneOf sheet c .rels)) w i moved steps (r + q) e) same
+  pub passed-slope : (poses poses' : List (Pose Float)) (i : ℕ) (moved steps : List Float) (q e : ℕ) → poses' ≡ poses → q < length (one poses')
+      → movedSlope one poses' i moved steps q e ≡ movedSlope all poses i moved steps (r + q) e
+  passed-slope = from-slope all (λ poses. restRows sheet c poses j) one (λ poses. restRows sheet c poses (suc j)) r split alike (g .rows)
 
 pub passed-end : (sheet : List ℕ) (c : SceneStruct) (poses : List (Pose Float)) (j r : ℕ) → Laid sheet c → j ≡ c .k → Passed sheet c j r → r ≡ c .rows
 passed-end sheet c poses j r laid e g =
-    let a = length-drop r (allRows poses (sceneOf sheet c .rels)) in
-    let b = laid .row-count poses in
-    let d = ap length (g .rest poses ∙ rows-done sheet c poses j e) in
-    let w = g .among in
-    omega arith
+    from-end (λ poses. allRows poses (sceneOf sheet c .rels)) (λ poses. restRows sheet c poses j) r poses (rows-done sheet c poses j e) (g .rows) ∙ laid .row-count poses
 
 -- ---- what single functions need
 

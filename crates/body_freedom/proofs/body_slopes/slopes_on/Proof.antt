@@ -50,7 +50,7 @@ loop-again c =
     let g = o .args in
     let room = o .pre .1 in
     let y = c .before .before .named-slopes .ensures in
-    let w = mul-le-mul-right 6 (l .inv .1 .among (posesIn (g .s .now) (g .p) (g .scene .m))) in (
+    let w = mul-le-mul-right 6 (l .inv .1 .rows .among (posesIn (g .s .now) (g .p) (g .scene .m))) in (
       omega arith,
       passed-step (g .sheet .now) (g .scene) (g .i) (l .j) (l .row) (omega arith) (l .inv .1) _ _ (y .next),
       passed-slopes (g .sheet .now) (g .scene) (g .i) (l .j) (l .row) (omega arith) (l .inv .1) (g .s .now) (l .s) _ _ _ (g .p) _ (omega arith) (l .inv .2) y,

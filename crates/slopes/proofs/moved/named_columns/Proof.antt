@@ -7,7 +7,7 @@ use native.Mathlib.Nat.{mul-le-mul-right}
 use Rattle.scene.specs.Solve.{allRows}
 use Rattle.scene.specs.Scene.{sceneOf, posesIn}
 use Rattle.slopes.specs.Moved.{movedSlope, Block}
-use Rattle.slopes.proofs.MovedLaws.{Passed, passed-start, passed-room, passed-step, passed-slope, passed-end, block-no-rows, block-rows, block-as, block-poses, still-clear, room-next}
+use Rattle.slopes.proofs.MovedLaws.{Passed, passed-start, passed-among, passed-room, passed-step, passed-slope, passed-end, block-no-rows, block-rows, block-as, block-poses, still-clear, room-next}
 use Rattle.slopes.proofs.moved.named_columns.Statement.{statement}
 use Rattle.slopes.proofs.moved.named_columns.Tie as tie
 
@@ -34,7 +34,7 @@ inside : (c : tie.In-loop Inv-loop μ-loop)
 inside c =
     let o = c .before .before .before .before .before in
     let room = o .pre .1 .0 in
-    let w = mul-le-mul-right (o .args .n) (c .before .loop .inv .1 .among) in
+    let w = mul-le-mul-right (o .args .n) (passed-among _ _ _ _ (o .pre .0) (c .before .loop .inv .1)) in
     omega arith
 
 mul-named-rel-2 : tie.Need-mul-named-rel-2 Inv-loop μ-loop
@@ -81,7 +81,7 @@ loop-again c =
     let laid = o .pre .0 in
     let room = o .pre .1 .0 in
     let y = c .before .before .named-rel .ensures in
-    let w = mul-le-mul-right (g .n) (l .inv .1 .among) in
+    let w = mul-le-mul-right (g .n) (passed-among _ _ _ _ laid (l .inv .1)) in
     let same = block-poses (g .s .now) (l .s) (g .o) (g .n) (l .row) 6 (g .p) (g .scene .m) _ (room .wide) (omega arith) (l .inv .2) in (
       omega arith,
       passed-step (g .sheet .now) (g .scene) (l .j) (l .row) laid (omega arith) (l .inv .1) _ _ (y .count),
