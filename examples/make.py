@@ -1,5 +1,5 @@
 #!/usr/bin/env python3
-"""Writes the example sheets beside this file: python3 examples/make.py. With a folder's name it writes there, and the benchmark's four: 16 bodies, 64 bodies, 32 bodies that jam, and 800 rows.
+"""Writes the example sheets beside this file: python3 examples/make.py. With a folder's name it writes there, and the benchmark's five: 16 bodies, 64 bodies, 64 that all hang together, 32 that jam, and 800 rows.
 
 The format is document 01's, with gears as request 1 has them: a header of 24 bytes, 136 bytes for a body, 264 for a relation, all little endian. Millimetres and radians.
 """
@@ -165,11 +165,16 @@ def impossible():
     return sheet(bodies, [low, high])
 
 
+def beside(i):
+    """Where the plate of movement i stands among others."""
+    return 40.0 * (i % 4), 40.0 * (i // 4), 0.0
+
+
 def side_by_side(count, hole=PIN):
     """Movements of 8 bodies and 16 relations."""
     bodies, relations = [], []
     for i in range(count):
-        b, r = movement(8 * i, (40.0 * (i % 4), 40.0 * (i // 4), 0.0), True, hole)
+        b, r = movement(8 * i, beside(i), True, hole)
         bodies += b
         relations += r
     return sheet(bodies, relations)
@@ -183,6 +188,21 @@ def pair():
 def full():
     """64 bodies and 128 relations: eight movements side by side."""
     return side_by_side(8)
+
+
+def linked():
+    """64 bodies and 128 relations: the eight movements hang together. The first plate alone is fixed; each other is joined rigidly to the one before, in the place of its bridge's flush face."""
+    bodies, relations = [], []
+    for i in range(8):
+        b, r = movement(8 * i, beside(i), True)
+        if i > 0:
+            (x, y, z), before = beside(i), beside(i - 1)
+            b[0] = body((x + 0.1, y - 0.05, z + 0.02), size=26.0)
+            hole = tuple(u - v for u, v in zip((x, y, z), before))
+            r[-1] = relation(JOINT, end(PLANE, 8 * (i - 1), hole, Z), end(PLANE, 8 * i, ZERO, Z), joint=RIGID, flag=1)
+        bodies += b
+        relations += r
+    return sheet(bodies, relations)
 
 
 def jammed():
@@ -208,7 +228,7 @@ def main():
     folder = Path(sys.argv[1]) if len(sys.argv) > 1 else Path(__file__).resolve().parent
     sheets = {"worked": worked(), "movement": sheet(*movement(0, ZERO, False)), "impossible": impossible(), "train": train()}
     if len(sys.argv) > 1:
-        sheets.update(pair=pair(), full=full(), jammed=jammed(), rows=rows())
+        sheets.update(pair=pair(), full=full(), linked=linked(), jammed=jammed(), rows=rows())
     for name, text in sheets.items():
         (folder / f"{name}.sheet").write_bytes(text)
         print(f"{name}.sheet: {len(text)} bytes")

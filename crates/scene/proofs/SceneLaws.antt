@@ -11,7 +11,7 @@ use native.Mathlib.Decide.{decLt, ℕ-discrete}
 use borrow.Author.Tests.{eq-eqb, ne-eqb}
 use native.Mathlib.Nat.{not-suc-le-zero, le-of-suc-le-suc}
 use lib.ListN.{length, getD, set, take, drop, length-set, length-drop, length-append, List·getD-append, List·getD-eq-default}
-use lib.Seq.{take-add, take-all, drop-drop, drop-cons, drop-length, take-suc, take-suc-set, getD-append-add, getD-set-same, getD-set-other, ext-getD}
+use lib.Seq.{take-add, take-all, drop-drop, drop-cons, drop-length, take-suc, take-suc-set, getD-append-add, getD-set-same, getD-set-other, set-out, ext-getD}
 use lib.Ieee.{Float, nan}
 use Rattle.relations.specs.Geometry.{Pose}
 use Rattle.relations.specs.Model.{Body, Rel}
@@ -431,8 +431,25 @@ growing-from s p whole = let e : 0 ≡ p - p = omega arith in subst (λ (j : ℕ
 pub pose-of : (s : List Float) (p m i : ℕ) → i < m → poseIn s (p + 12 * i) ≡ getD (posesIn s p m) i ground
 pose-of s p m i h = sym (getD-listOf (λ i. poseIn s (p + 12 * i)) m i ground h)
 
-pub pose-past : (s : List Float) (p m i : ℕ) → m ≤ i → ground ≡ getD (posesIn s p m) i ground
-pose-past s p m i h = sym (List·getD-eq-default (posesIn s p m) ground (rw (length-listOf (λ i. poseIn s (p + 12 * i)) m) h))
+-- the pose of an end, body i's being w
+module _ (s : List Float) (p m i : ℕ) (w : Pose Float) where
+  pub end-here : (k : ℕ) → k ≡ i → k < m → w ≡ getD (set (posesIn s p m) i w) k ground
+  end-here k e h =
+      let f = length-listOf (λ i. poseIn s (p + 12 * i)) m in
+      sym (getD-set-same (posesIn s p m) i w ground (omega arith)) ∙ ap (λ (q : ℕ). getD (set (posesIn s p m) i w) q ground) (sym e)
+
+  pub end-there : (k : ℕ) → (k ≡ i → ⊥) → k < m → poseIn s (p + 12 * k) ≡ getD (set (posesIn s p m) i w) k ground
+  end-there k e h = pose-of s p m k h ∙ sym (getD-set-other (posesIn s p m) i k w ground e)
+
+  pub end-past : (k : ℕ) → m ≤ k → ground ≡ getD (set (posesIn s p m) i w) k ground
+  end-past k h =
+      let e = length-set (posesIn s p m) i w in
+      let f = length-listOf (λ i. poseIn s (p + 12 * i)) m in
+      sym (List·getD-eq-default (set (posesIn s p m) i w) ground (omega arith))
+
+-- where the number is no body's, none has moved
+pub none-moved : (s : List Float) (p m : ℕ) (w : Pose Float) → set (posesIn s p m) m w ≡ posesIn s p m
+none-moved s p m w = set-out (posesIn s p m) m w (let e = length-listOf (λ i. poseIn s (p + 12 * i)) m in omega arith)
 
 pub put-more : (s t : List Float) (o i : ℕ) (l : List Float) (d : Float) → i < length l → o + i < length t → Put s t o i (take i l) → Put s (set t (o + i) (getD l i d)) o (i + 1) (take (i + 1) l)
 put-more s t o i l d h k y =

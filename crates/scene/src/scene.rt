@@ -4,7 +4,7 @@
 ghost use mathlib.Core.Path.{_≡_};
 ghost use mathlib.Core.List.{List, map};
 ghost use Prim.Native.Nat.{ℕ, _+_, _*_, _-_, _≤_, _<_};
-ghost use lib.ListN.{length, getD};
+ghost use lib.ListN.{length, getD, set};
 ghost use lib.Ieee.{Float};
 ghost use Rattle.vectors.specs.Vec.{vec};
 ghost use Rattle.relations.specs.Geometry as geometry;
@@ -152,16 +152,19 @@ pub fn poses_at(sheet: &[u8], scene: Scene, s: &mut [f64], x: usize, p: usize)
     }
 }
 
-// The pose of an end's body, the poses of m bodies standing from p on; the ground's for an end that names none.
-fn end_pose(s: &[f64], p: usize, m: usize, place: BodyRef) -> Pose
+// The pose of an end's body, the poses of m bodies standing from p on, where body i has the pose w; the ground's for an end that names none.
+fn end_pose(s: &[f64], p: usize, m: usize, place: BodyRef, i: usize, w: Pose) -> Pose
     requires { ⌜ p + 12 * m ≤ length (now s) ⌝ }
-    ensures { λ q. ⌜ pose q ≡ solve.endPose (spec.posesIn (now (s .entry)) p m) (bodyNumber place) ⌝ }
+    ensures { λ q. ⌜ pose q ≡ solve.endPose (set (spec.posesIn (now (s .entry)) p m) i (pose w)) (bodyNumber place) ⌝ }
 {
     match place {
         BodyRef::Ground => Pose::GROUND,
-        BodyRef::Of(i) => {
-            if i < m {
-                pose_at(s, p + 12 * i)
+        BodyRef::Of(k) => {
+            if k < m {
+                if k == i {
+                    return w;
+                }
+                pose_at(s, p + 12 * k)
             } else {
                 Pose::GROUND
             }
@@ -170,7 +173,7 @@ fn end_pose(s: &[f64], p: usize, m: usize, place: BodyRef) -> Pose
 }
 
 // What the third end belongs to, symmetry's plane or a gear's carrier.
-pub fn third_body(law: Law) -> BodyRef
+fn third_body(law: Law) -> BodyRef
     ensures { λ r. ⌜ bodyNumber r ≡ solve.thirdBody (lawOf law) ⌝ }
 {
     match law {
@@ -204,20 +207,28 @@ pub fn third_body(law: Law) -> BodyRef
     }
 }
 
-// The rows of a relation, the poses of m bodies standing from p on.
-pub fn rel_rows(s: &[f64], p: usize, m: usize, rel: Rel) -> Rows
+// The rows of a relation, the poses of m bodies standing from p on, where body i has the pose w.
+pub fn rel_rows_moved(s: &[f64], p: usize, m: usize, rel: Rel, i: usize, w: Pose) -> Rows
     requires { ⌜ p + 12 * m ≤ length (now s) ⌝ }
-    ensures { λ r. ⌜ r ≡ rows_spec.pack (solve.rowsAt (spec.posesIn (now (s .entry)) p m) (relOf rel)) ⌝ }
+    ensures { λ r. ⌜ r ≡ rows_spec.pack (solve.rowsAt (set (spec.posesIn (now (s .entry)) p m) i (pose w)) (relOf rel)) ⌝ }
 {
     let law = rel.law;
     let a = rel.a;
     let b = rel.b;
     let pa = a.body;
     let pb = b.body;
-    let qa = end_pose(s, p, m, pa);
-    let qb = end_pose(s, p, m, pb);
-    let qs = end_pose(s, p, m, third_body(law));
+    let qa = end_pose(s, p, m, pa, i, w);
+    let qb = end_pose(s, p, m, pb, i, w);
+    let qs = end_pose(s, p, m, third_body(law), i, w);
     residual(rel, qa, qb, qs)
+}
+
+// The rows of a relation, the poses of m bodies standing from p on: no body has the number m.
+pub fn rel_rows(s: &[f64], p: usize, m: usize, rel: Rel) -> Rows
+    requires { ⌜ p + 12 * m ≤ length (now s) ⌝ }
+    ensures { λ r. ⌜ r ≡ rows_spec.pack (solve.rowsAt (spec.posesIn (now (s .entry)) p m) (relOf rel)) ⌝ }
+{
+    rel_rows_moved(s, p, m, rel, m, Pose::GROUND)
 }
 
 // The rows to the places from `at` on; the place behind them.

@@ -8,43 +8,27 @@ use native.Mathlib.Omega.{arith}
 use native.Mathlib.Numerals.{add-one}
 use native.Mathlib.Decide.{decLt}
 use native.Mathlib.Nat.{not-suc-le-zero, add-mul, mul-le-mul-right}
-use lib.ListN.{length, getD, set, length-set, List·getD-eq-default}
+use lib.ListN.{length, getD, set, length-set}
 use lib.Seq.{getD-set-same, getD-set-other}
 use lib.Ieee.{Float, nan}
 use Rattle.relations.specs.Geometry.{Pose}
 use Rattle.relations.specs.Model.{Rel}
-use Rattle.relations.specs.Rows.{ground, pack}
+use Rattle.relations.specs.Rows.{pack}
 use Rattle.relations.specs.Rows as Rows
 use Rattle.relations.specs.declared.rows.Rows.{Rows as RowsStruct}
 use Rattle.judging.specs.Count.{rowCount}
 use Rattle.judging.proofs.CountLaws.{residual-length, row-count-le, rows-packed}
 use Rattle.records.specs.Record.{relAt}
 use Rattle.least_squares.specs.Lm.{listOf, slopeOf}
-use Rattle.least_squares.proofs.TableLaws.{in-rows, length-listOf, one-more}
+use Rattle.least_squares.proofs.TableLaws.{in-rows, one-more}
 use Rattle.scene.specs.Solve.{names, rowsAt, allRows}
 use Rattle.scene.specs.Scene.{sceneOf, Laid, relRows, poseIn, posesIn}
 use Rattle.scene.specs.declared.scene.Scene.{Scene as SceneStruct}
-use Rattle.scene.proofs.SceneLaws.{restRows, rows-next, rows-done, packed, pose-of, pose-same}
+use Rattle.scene.proofs.SceneLaws.{restRows, rows-next, rows-done, packed, pose-same}
 use Rattle.slopes.specs.Moved.{movedSlope, Steps, Strided, Block, Clear, Room, RelColumns}
 use Rattle.slopes.proofs.SlopeLaws.{row-before, column-of}
 use Rattle.slopes.proofs.AnewLaws.{rows-other}
 use Rattle.slopes.proofs.PassLaws.{RowsBy, From, from-room, from-step, from-slope, from-end}
-
--- ---- the pose of an end, body i's being w
-
-module _ (s : List Float) (p m i : ℕ) (w : Pose Float) where
-  pub end-here : (k : ℕ) → k ≡ i → i < m → w ≡ getD (set (posesIn s p m) i w) k ground
-  end-here k e h =
-      sym (getD-set-same (posesIn s p m) i w ground (rw (length-listOf (λ i. poseIn s (p + 12 * i)) m) h)) ∙ ap (λ (q : ℕ). getD (set (posesIn s p m) i w) q ground) (sym e)
-
-  pub end-there : (k : ℕ) → (k ≡ i → ⊥) → k < m → poseIn s (p + 12 * k) ≡ getD (set (posesIn s p m) i w) k ground
-  end-there k e h = pose-of s p m k h ∙ sym (getD-set-other (posesIn s p m) i k w ground e)
-
-  pub end-past : (k : ℕ) → m ≤ k → ground ≡ getD (set (posesIn s p m) i w) k ground
-  end-past k h =
-      let e = length-set (posesIn s p m) i w in
-      let f = length-listOf (λ i. poseIn s (p + 12 * i)) m in
-      sym (List·getD-eq-default (set (posesIn s p m) i w) ground (omega arith))
 
 -- ---- every n-th place
 

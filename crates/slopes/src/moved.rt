@@ -3,9 +3,9 @@
 
 ghost use mathlib.Core.Path.{_≡_};
 ghost use Prim.Native.Nat.{ℕ, _+_, _*_, _≤_, _<_};
-ghost use lib.ListN.{length, getD, set};
+ghost use lib.ListN.{length, getD};
 ghost use lib.Ieee.{nan};
-ghost use Rattle.relations.specs.Model.{bodyNumber, relOf, pose};
+ghost use Rattle.relations.specs.Model.{relOf};
 ghost use Rattle.relations.specs.Rows as rows_spec;
 ghost use Rattle.records.specs.Record as format;
 ghost use Rattle.least_squares.specs.Lm as lm;
@@ -15,53 +15,12 @@ ghost use Rattle.slopes.specs.Moved as spec;
 use crate::slopes::slope_of;
 use judging::count::row_count;
 use records::record::rel_at;
-use relations::model::BodyRef;
-use relations::model::Pose;
 use relations::model::Rel;
 use relations::rows::Rows;
-use relations::rows::residual;
 use scene::scene::Scene;
 use scene::scene::names;
 use scene::scene::pose_at;
-use scene::scene::third_body;
-
-// The pose of an end's body where body i has the pose w.
-fn end_pose_moved(s: &[f64], p: usize, m: usize, place: BodyRef, i: usize, w: Pose) -> Pose
-    requires { ⌜ i < m ⌝ }
-    requires { ⌜ p + 12 * m ≤ length (now s) ⌝ }
-    ensures { λ q. ⌜ pose q ≡ definitions.endPose (set (posesIn (now (s .entry)) p m) i (pose w)) (bodyNumber place) ⌝ }
-{
-    match place {
-        BodyRef::Ground => Pose::GROUND,
-        BodyRef::Of(k) => {
-            if k == i {
-                return w;
-            }
-            if k < m {
-                pose_at(s, p + 12 * k)
-            } else {
-                Pose::GROUND
-            }
-        }
-    }
-}
-
-// The rows of a relation where body i has the pose w.
-pub fn rel_rows_moved(s: &[f64], p: usize, m: usize, rel: Rel, i: usize, w: Pose) -> Rows
-    requires { ⌜ i < m ⌝ }
-    requires { ⌜ p + 12 * m ≤ length (now s) ⌝ }
-    ensures { λ r. ⌜ r ≡ rows_spec.pack (definitions.rowsAt (set (posesIn (now (s .entry)) p m) i (pose w)) (relOf rel)) ⌝ }
-{
-    let law = rel.law;
-    let a = rel.a;
-    let b = rel.b;
-    let pa = a.body;
-    let pb = b.body;
-    let qa = end_pose_moved(s, p, m, pa, i, w);
-    let qb = end_pose_moved(s, p, m, pb, i, w);
-    let qs = end_pose_moved(s, p, m, third_body(law), i, w);
-    residual(rel, qa, qb, qs)
-}
+use scene::scene::rel_rows_moved;
 
 // The slopes from the rows ahead and the rows behind, to every n-th place from o on.
 fn put_slopes(s: &mut [f64], o: usize, n: usize, plus: Rows, minus: Rows, h: f64)
