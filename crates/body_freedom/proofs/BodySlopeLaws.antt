@@ -23,12 +23,13 @@ use Rattle.scene.specs.Solve.{Scene, names, named, moves, layoutFrom, unknownsI
 use Rattle.scene.specs.Scene.{sceneOf, Laid, poseDoubles, posesDoubles, poseIn, posesIn, Put}
 use Rattle.body_freedom.specs.Dof.{relsOf, withBody, bodyRows, zeros, columnsTimes, squareOf}
 use Rattle.scene.specs.declared.scene.Scene.{Scene as SceneStruct}
-use Rattle.least_squares.proofs.MemoryLaws.{part-length, part-at, kept-at-below, kept-at-above}
+use Rattle.least_squares.proofs.MemoryLaws.{part-length, part-at}
 use Rattle.least_squares.proofs.TableLaws.{length-listOf, getD-listOf, one-more, sum-same, in-rows, length-tableOf, getD-tableOf, table-ext}
 use Rattle.scene.proofs.RowCountLaws.{rows-alike}
-use Rattle.scene.proofs.SceneLaws.{Growing, growing-step, listOf-next, drop-whole, length-bodies, bodies-next, next-layout, poses-there, pose-same, pose-put}
+use Rattle.scene.proofs.SceneLaws.{Growing, growing-step, listOf-next, drop-whole, length-bodies, bodies-next, next-layout, poses-there, pose-put}
 use Rattle.slopes.specs.Moved.{movedSlope, Block}
 use Rattle.slopes.proofs.MovedLaws.{rel-length, block-no-rows, block-rows, block-as, block-poses}
+use Rattle.slopes.proofs.BodyLaws.{slot-kept}
 use Rattle.slopes.proofs.PassLaws.{RowsBy, From, from-room, from-step, from-slope, from-end}
 use Rattle.body_freedom.specs.BodySlopes.{bodyParts, BodyApart, starts, shifted, MovedPoses, sixSteps, namedRows, rowsOn, movedRows, NamedSlopes, SlopesOn, BodySlopes, BodySquare}
 use Rattle.body_freedom.specs.declared.body_slopes.BodyParts.{BodyParts as BodyPartsStruct}
@@ -283,13 +284,7 @@ pub record Moving (b : Body) (s t : List Float) (e : ℕ) : Type 0 where
 pub moving-start : (b : Body) (s : List Float) → Moving b s s 0
 moving-start b s = record { size = refl; ahead = λ d h. absurd (not-suc-le-zero h); behind = λ d h. absurd (not-suc-le-zero h) }
 
--- a pose that stands before the one that is put, and one that stands after it
-pose-before : (s t : List Float) (o q : ℕ) (w : List Float) → q + 12 ≤ o → Put s t o 12 w → poseIn t q ≡ poseIn s q
-pose-before s t o q w h y = pose-same s t q (λ k a b. kept-at-below s t o (o + 12) k nan (omega arith) (y .kept))
-
-pose-after : (s t : List Float) (o q : ℕ) (w : List Float) → o + 12 ≤ q → Put s t o 12 w → poseIn t q ≡ poseIn s q
-pose-after s t o q w h y = pose-same s t q (λ k a b. kept-at-above s t o (o + 12) k nan (omega arith) (y .kept))
-
+-- the poses of one more unknown
 pub moving-step : (b : Body) (s t u v : List Float) (e : ℕ) (h : Float) → e < 6 → h ≡ stepOf zero64 → Moving b s t e
     → Put t u (12 * e) 12 (poseDoubles (shifted b (set (zeros 6) e (add binary64 zero64 h))))
     → Put u v (72 + 12 * e) 12 (poseDoubles (shifted b (set (zeros 6) e (sub binary64 zero64 h))))
@@ -299,11 +294,11 @@ moving-step b s t u v e h l f g y z =
       size = z .kept .size ∙ y .kept .size ∙ g .size;
       ahead =
           one-more (λ d. poseIn v (12 * d) ≡ shifted b (set (zeros 6) d (add binary64 zero64 (stepOf zero64)))) e
-          (λ d a. pose-before u v (72 + 12 * e) (12 * d) _ (omega arith) z ∙ pose-before t u (12 * e) (12 * d) _ (omega arith) y ∙ g .ahead d a)
-          (pose-before u v (72 + 12 * e) (12 * e) _ (omega arith) z ∙ pose-put t u (12 * e) _ y ∙ ap (λ (w : Float). shifted b (set (zeros 6) e (add binary64 zero64 w))) f);
+          (λ d a. slot-kept u v (72 + 12 * e) (12 * d) _ z (λ m. omega arith) (λ m. omega arith) ∙ slot-kept t u (12 * e) (12 * d) _ y (λ m. omega arith) (λ m. omega arith) ∙ g .ahead d a)
+          (slot-kept u v (72 + 12 * e) (12 * e) _ z (λ m. omega arith) (λ m. omega arith) ∙ pose-put t u (12 * e) _ y ∙ ap (λ (w : Float). shifted b (set (zeros 6) e (add binary64 zero64 w))) f);
       behind =
           one-more (λ d. poseIn v (72 + 12 * d) ≡ shifted b (set (zeros 6) d (sub binary64 zero64 (stepOf zero64)))) e
-          (λ d a. pose-before u v (72 + 12 * e) (72 + 12 * d) _ (omega arith) z ∙ pose-after t u (12 * e) (72 + 12 * d) _ (omega arith) y ∙ g .behind d a)
+          (λ d a. slot-kept u v (72 + 12 * e) (72 + 12 * d) _ z (λ m. omega arith) (λ m. omega arith) ∙ slot-kept t u (12 * e) (72 + 12 * d) _ y (λ m. omega arith) (λ m. omega arith) ∙ g .behind d a)
           (pose-put u v (72 + 12 * e) _ z ∙ ap (λ (w : Float). shifted b (set (zeros 6) e (sub binary64 zero64 w))) f);
     }
 

@@ -2,7 +2,7 @@
 use mathlib.Core.Path.{_≡_, refl, sym, ap, subst, _∙_}
 use mathlib.Core.Bool.{Bool, true, false, not, _&&_, _||_, cond}
 use mathlib.Core.Logic.{inl, inr}
-use mathlib.Core.List.{List, [], _∷_, _++_, map}
+use mathlib.Core.List.{List, [], _∷_, map}
 use mathlib.Core.Option.{Option, none, some}
 use Prim.Native.Nat.{ℕ, zero, suc, _+_, _-_, _*_, _≤_, _<_, min}
 use native.Mathlib.Omega.{arith}
@@ -11,12 +11,12 @@ use native.Mathlib.Nat.{not-suc-le-zero, le-of-suc-le-suc, eq-or-lt-of-le, zero-
 use borrow.Author.Tests.{eq-eqb, ne-eqb}
 use lib.Dec.{eqb}
 use lib.ListN.{length, getD, set, take, drop, length-drop}
-use lib.Seq.{take-length, take-suc-set, drop-set-add, drop-cons}
+use lib.Seq.{take-length, drop-cons}
 use lib.Ieee.{Float, nan, binary64, div, lt, le}
 use Rattle.numbers.specs.Double.{zero64, fmax}
 use Rattle.arcs.specs.Root.{root}
 use Rattle.eigen.specs.Eigen.{Eigen, symEigen}
-use Rattle.least_squares.specs.Lm.{listOf, slope, jacobian}
+use Rattle.least_squares.specs.Lm.{slope, jacobian}
 use Rattle.least_squares.specs.Memory.{part, Kept}
 use Rattle.relations.specs.Model.{Body, Rel}
 use Rattle.records.specs.Record.{bodyAt}
@@ -124,15 +124,6 @@ pub scaled-done : (sheet : List ℕ) (c : SceneStruct) (x : List Float) (i : ℕ
 unfolding scaledFrom
 scaled-done sheet c x i e =
     ap (λ (l : List Body). scaledFrom x l (drop i (layout (sceneOf sheet c)))) (drop-whole (sceneOf sheet c .bodies) i (length-bodies sheet c ∙ sym e))
-
--- ---- zeros
-
-pub clear-step : (o s : List Float) (at i k : ℕ) → at + k ≤ length o → i < k → Kept o s at (at + k) → part s at i ≡ zeros i → part (set s (at + i) zero64) at (i + 1) ≡ zeros (i + 1)
-unfolding listOf
-clear-step o s at i k h l r e =
-    let z = r .size in
-    let m : i < length (drop at s) = simp length-drop (omega arith) in
-    rw (add-one i) (ap (take (suc i)) (drop-set-add at s i zero64) ∙ take-suc-set (drop at s) i zero64 m ∙ ap (λ (w : List Float). w ++ (zero64 ∷ [])) e)
 
 -- ---- the square
 

@@ -7,7 +7,6 @@ use mathlib.Core.Option.{Option, none, some}
 use Prim.Native.Nat.{ℕ, zero, suc, _+_, _-_, _*_, _≤_, _<_}
 use native.Mathlib.Omega.{arith}
 use native.Mathlib.Numerals.{add-one}
-use native.Mathlib.Decide.{decLt, ℕ-discrete}
 use borrow.Author.Tests.{eq-eqb, ne-eqb}
 use native.Mathlib.Nat.{not-suc-le-zero, le-of-suc-le-suc}
 use lib.ListN.{length, getD, set, take, drop, length-set, length-drop, length-append, List·getD-append, List·getD-eq-default}
@@ -502,31 +501,3 @@ pose-put s t w q y =
     let e : posesIn t w 1 ≡ q ∷ [] = poses-there t w 12 (q ∷ []) (y .holds) refl 1 refl in
     let z : w ≡ w + 12 * 0 = omega arith in
     ap (poseIn t) z ∙ pose-of t w 1 0 (omega arith) ∙ ap (λ (l : List (Pose Float)). getD l 0 ground) e
-
-module _ (s t : List Float) (p m i : ℕ) (q : Pose Float) (h : i < m) (y : Put s t (p + 12 * i) 12 (poseDoubles q)) where
-  pub pose-other : (k : ℕ) → (k ≡ i → ⊥) → poseIn t (p + 12 * k) ≡ poseIn s (p + 12 * k)
-  pose-other k n = pose-same s t (p + 12 * k) (λ w a b. go w a b (decLt k i))
-    where
-      go : (w : ℕ) → p + 12 * k ≤ w → w < p + 12 * k + 12 → Dec (k < i) → getD t w nan ≡ getD s w nan
-      go w a b (yes l) = kept-at-below s t (p + 12 * i) (p + 12 * i + 12) w nan (omega arith) (y .kept)
-      go w a b (no l) =
-          let g : i < k = omega arith in
-          kept-at-above s t (p + 12 * i) (p + 12 * i + 12) w nan (omega arith) (y .kept)
-
-  -- the others stay
-  pub poses-put : posesIn t p m ≡ set (posesIn s p m) i q
-  poses-put = ext-getD ground (posesIn t p m) (set (posesIn s p m) i q) lengths at
-    where
-      lengths : length (posesIn t p m) ≡ length (set (posesIn s p m) i q)
-      lengths = length-listOf _ m ∙ sym (length-set (posesIn s p m) i q ∙ length-listOf _ m)
-
-      at : (k : ℕ) → k < length (posesIn t p m) → getD (posesIn t p m) k ground ≡ getD (set (posesIn s p m) i q) k ground
-      at k l =
-          let b : k < m = rw (length-listOf (λ i. poseIn t (p + 12 * i)) m) at l in
-          elim (ℕ-discrete k i) [
-            | yes e ↦
-                sym (pose-of t p m k b) ∙ ap (λ (w : ℕ). poseIn t (p + 12 * w)) e ∙ pose-put s t (p + 12 * i) q y
-                ∙ sym (getD-set-same (posesIn s p m) i q ground (rw (length-listOf (λ i. poseIn s (p + 12 * i)) m) h))
-                ∙ ap (λ (w : ℕ). getD (set (posesIn s p m) i q) w ground) (sym e)
-            | no n ↦ sym (pose-of t p m k b) ∙ pose-other k n ∙ pose-of s p m k b ∙ sym (getD-set-other (posesIn s p m) i k q ground n)
-          ]

@@ -58,7 +58,8 @@ pose-six xs b k e v h =
 
 -- ---- the poses a step ahead and a step behind
 
-slot-kept : (s t : List Float) (w v : ℕ) (l : List Float) → Put s t w 12 l → (v < w → v + 12 ≤ w) → ((v < w → ⊥) → w + 12 ≤ v) → poseIn t v ≡ poseIn s v
+-- twelve places that were put elsewhere leave a pose
+pub slot-kept : (s t : List Float) (w v : ℕ) (l : List Float) → Put s t w 12 l → (v < w → v + 12 ≤ w) → ((v < w → ⊥) → w + 12 ≤ v) → poseIn t v ≡ poseIn s v
 slot-kept s t w v l y below above = pose-same s t v (λ q a b. go q a b (decLt v w))
   where
     go : (q : ℕ) → v ≤ q → q < v + 12 → Dec (v < w) → getD t q nan ≡ getD s q nan
