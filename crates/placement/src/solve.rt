@@ -3,8 +3,8 @@
 
 ghost use mathlib.Core.Path.{_≡_};
 ghost use mathlib.Core.Bool.{true, false};
-ghost use mathlib.Core.List.{List, _++_, map};
-ghost use Prim.Native.Nat.{ℕ, _+_, _*_, _≤_, _<_};
+ghost use mathlib.Core.List.{_++_, map};
+ghost use Prim.Native.Nat.{_+_, _*_, _≤_, _<_};
 ghost use lib.ListN.{length, drop};
 ghost use Rattle.numbers.specs.MaxAbs.{maxAbs};
 ghost use Rattle.vectors.specs.Space as space;
@@ -27,6 +27,7 @@ use rounds::rounds::run;
 use rounds::trial::largest;
 use scene::parameters::Parameters;
 use scene::scene::Scene;
+use scene::scene::clear;
 use scene::scene::inverse_weights;
 use scene::scene::pose_at;
 use scene::scene::poses_at;
@@ -41,9 +42,7 @@ pub fn put_start(s: &mut [f64], x: usize, n: usize)
     requires { ⌜ x + n ≤ length (now s) ⌝ }
     ensures { λ _. ⌜ Put (now (s .entry)) (now (s .exit)) x n (lm.listOf definitions.startAt n) ⌝ }
 {
-    for i in 0..n {
-        s[x + i] = 0.0;
-    }
+    clear(s, x, n);
 }
 
 // The unknown i of the retry.

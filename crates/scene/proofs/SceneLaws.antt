@@ -14,6 +14,7 @@ use lib.Seq.{take-add, take-all, drop-drop, drop-cons, drop-length, take-suc, ta
 use lib.Ieee.{Float, nan}
 use Rattle.relations.specs.Geometry.{Pose}
 use Rattle.relations.specs.Model.{Body, Rel}
+use Rattle.numbers.specs.Double.{zero64}
 use Rattle.relations.specs.Rows as Rows
 use Rattle.relations.specs.Rows.{ground, pack}
 use Rattle.judging.proofs.CountLaws.{residual-length, row-count-le, rows-packed}
@@ -470,6 +471,14 @@ packed-next s t o q r l e h y =
 pub six-are : (s t : List Float) (o : ℕ) (a a' b b' : Float) → a ≡ a' → b ≡ b' → Put s t o 6 (a ∷ a ∷ a ∷ b ∷ b ∷ b ∷ []) → Put s t o 6 (a' ∷ a' ∷ a' ∷ b' ∷ b' ∷ b' ∷ [])
 six-are s t o a a' b b' e f y =
     subst (λ (w : Float). Put s t o 6 (a' ∷ a' ∷ a' ∷ w ∷ w ∷ w ∷ [])) f (subst (λ (w : Float). Put s t o 6 (w ∷ w ∷ w ∷ b ∷ b ∷ b ∷ [])) e y)
+
+-- ---- zeros
+
+pub put-zero : (s t : List Float) (o i : ℕ) → o + i < length t → Put s t o i (listOf (λ i. zero64) i) → Put s (set t (o + i) zero64) o (i + 1) (listOf (λ i. zero64) (i + 1))
+unfolding listOf
+put-zero s t o i h y =
+    subst (λ (w : List Float). Put s (set t (o + i) zero64) o (i + 1) w) (ap (listOf (λ i. zero64)) (sym (add-one i)))
+    (put-then s t (set t (o + i) zero64) o i (o + i) 1 (listOf (λ i. zero64) i) (zero64 ∷ []) refl y (put-one t (o + i) zero64 h))
 
 -- ---- one pose put anew
 

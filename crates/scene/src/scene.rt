@@ -6,6 +6,7 @@ ghost use mathlib.Core.List.{List, map};
 ghost use Prim.Native.Nat.{ℕ, _+_, _*_, _-_, _≤_, _<_};
 ghost use lib.ListN.{length, getD, set};
 ghost use lib.Ieee.{Float};
+ghost use Rattle.numbers.specs.Double.{zero64};
 ghost use Rattle.vectors.specs.Vec.{vec};
 ghost use Rattle.relations.specs.Geometry as geometry;
 ghost use Rattle.relations.specs.Model.{bodyNumber, bodyOf, lawOf, relOf, pose};
@@ -94,6 +95,16 @@ pub fn put_pose(s: &mut [f64], o: usize, q: Pose)
     let r1 = r.r1;
     let r2 = r.r2;
     put_four(s, o, r0, r1, r2, t);
+}
+
+// k zeros from o on.
+pub fn clear(s: &mut [f64], o: usize, k: usize)
+    requires { ⌜ o + k ≤ length (now s) ⌝ }
+    ensures { λ _. ⌜ spec.Put (now (s .entry)) (now (s .exit)) o k (lm.listOf (λ i. zero64) k) ⌝ }
+{
+    for i in 0..k {
+        s[o + i] = 0.0;
+    }
 }
 
 // Turned by w about the body's centre, then moved by t.

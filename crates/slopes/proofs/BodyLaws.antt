@@ -5,7 +5,6 @@ use mathlib.Core.List.{List, [], _∷_}
 use mathlib.Core.Option.{none, some}
 use Prim.Native.Nat.{ℕ, zero, suc, _+_, _-_, _*_, _≤_, _<_}
 use native.Mathlib.Omega.{arith}
-use native.Mathlib.Numerals.{add-one}
 use native.Mathlib.Decide.{decLt}
 use lib.ListN.{length, getD, set}
 use lib.Seq.{getD-set-same, getD-set-other, ext-getD}
@@ -21,7 +20,7 @@ use Rattle.scene.specs.Scene.{sceneOf, Laid, poseDoubles, posesDoubles, poseIn,
 use Rattle.scene.specs.declared.scene.Scene.{Scene as SceneStruct}
 use Rattle.least_squares.proofs.MemoryLaws.{part-length, part-at, part-set, part-part, part-same, part-below, take-same, kept-part-below, kept-at-below, kept-at-above}
 use Rattle.least_squares.proofs.TableLaws.{one-more, in-rows, getD-listOf, table-ext}
-use Rattle.scene.proofs.SceneLaws.{put-one, put-then, three-part, length-layout, length-poses, length-bodies, poses-there, pose-same, pose-put}
+use Rattle.scene.proofs.SceneLaws.{three-part, length-layout, length-poses, length-bodies, poses-there, pose-same, pose-put}
 use Rattle.slopes.specs.Moved.{movedSlope, Steps, Block, Clear}
 use Rattle.slopes.specs.AnewSlopes.{Apart, unknownsAt, given, MovedAlong, MovedPoses, Standing, ColumnsFrom}
 use Rattle.slopes.specs.declared.anew_slopes.SlopeParts.{SlopeParts as PartsStruct}
@@ -185,12 +184,6 @@ body-none sheet c at s i laid h e =
     record { size = refl; entries = λ r d l k v. absurd (omega arith); others = λ q l. refl }
 
 -- ---- all bodies
-
-pub put-zero : (s t : List Float) (o i : ℕ) → o + i < length t → Put s t o i (listOf (λ i. zero64) i) → Put s (set t (o + i) zero64) o (i + 1) (listOf (λ i. zero64) (i + 1))
-unfolding listOf
-put-zero s t o i h y =
-    subst (λ (w : List Float). Put s (set t (o + i) zero64) o (i + 1) w) (ap (listOf (λ i. zero64)) (sym (add-one i)))
-    (put-then s t (set t (o + i) zero64) o i (o + i) 1 (listOf (λ i. zero64) i) (zero64 ∷ []) refl y (put-one t (o + i) zero64 h))
 
 -- the columns below k of the slopes are worked, those from k on are +0, and outside the slopes nothing has changed
 pub record Reached (sc : Scene) (c : SceneStruct) (at : PartsStruct) (s t : List Float) (k : ℕ) : Type 0 where

@@ -6,12 +6,10 @@ ghost use mathlib.Core.Path.{_≡_};
 ghost use mathlib.Core.Option.{none, some};
 ghost use Prim.Native.Nat.{_+_, _*_, _≤_, _<_};
 ghost use lib.ListN.{length, getD};
-ghost use Rattle.numbers.specs.Double.{zero64};
 ghost use Rattle.relations.specs.Model.{bodyOf, pose};
-ghost use Rattle.least_squares.specs.Lm.{listOf};
 ghost use Rattle.least_squares.specs.Memory.{part};
 ghost use Rattle.scene.specs.Solve as definitions;
-ghost use Rattle.scene.specs.Scene.{Laid, sceneOf, Put, Slopes};
+ghost use Rattle.scene.specs.Scene.{Laid, sceneOf, Slopes};
 ghost use Rattle.slopes.specs.AnewSlopes as spec;
 use crate::moved::named_columns;
 use crate::slopes::step_of;
@@ -19,6 +17,7 @@ use records::record::body_at;
 use relations::model::Body;
 use relations::model::Pose;
 use scene::scene::Scene;
+use scene::scene::clear;
 use scene::scene::moved_pose;
 use scene::scene::poses_at;
 use scene::scene::put_pose;
@@ -29,16 +28,6 @@ pub struct SlopeParts {
     pub x: usize,
     pub slopes: usize,
     pub poses: usize,
-}
-
-// k zeros from o on.
-pub fn clear(s: &mut [f64], o: usize, k: usize)
-    requires { ⌜ o + k ≤ length (now s) ⌝ }
-    ensures { λ _. ⌜ Put (now (s .entry)) (now (s .exit)) o k (listOf (λ i. zero64) k) ⌝ }
-{
-    for i in 0..k {
-        s[o + i] = 0.0;
-    }
 }
 
 // The six doubles from o on.

@@ -1,14 +1,14 @@
--- `slopes::anew_slopes::clear` meets its contract. The invariant: the first i zeros stand, and nothing else has changed. The measure is the zeros to come. Assumes nothing.
+-- `scene::scene::clear` meets its contract. The invariant: the first i zeros stand, and nothing else has changed. The measure is the zeros to come. Assumes nothing.
 use mathlib.Core.Path.{_≡_, refl}
 use Prim.Native.Nat.{_-_, _≤_}
 use native.Mathlib.Omega.{arith}
 use Rattle.numbers.specs.Double.{zero64}
 use Rattle.least_squares.specs.Lm.{listOf}
 use Rattle.least_squares.proofs.MemoryLaws.{kept-refl}
 use Rattle.scene.specs.Scene.{Put}
-use Rattle.slopes.proofs.BodyLaws.{put-zero}
-use Rattle.slopes.proofs.anew_slopes.clear.Statement.{statement}
-use Rattle.slopes.proofs.anew_slopes.clear.Tie as tie
+use Rattle.scene.proofs.SceneLaws.{put-zero}
+use Rattle.scene.proofs.scene.clear.Statement.{statement}
+use Rattle.scene.proofs.scene.clear.Tie as tie
 
 abbrev Inv-loop : tie.InvT-loop
 Inv-loop s₀ o k i₀ s i = (i ≤ k) × Put s₀ s o i (listOf (λ i. zero64) i)
