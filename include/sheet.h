@@ -23,10 +23,11 @@
  * Tests 1 to 4 come first, then each body in order by 5 and 7, then each relation in order by 5, 14, 6 and 7, then 13, 8, 11,
  * 12, 15, 16, 10, 9. A test of what a call does not take is skipped. sheet_write has an order of its own, below.
  *
- * Nothing is kept after a call, and no memory is taken: a call reads the sheet, or what it writes a sheet from, and writes
- * only where its output and scratch pointers point. No pointer may be null, no output or scratch may overlap what the call
- * reads or another of them; doubles stand at addresses that are multiples of 8, words at multiples of 2. Lengths are counted
- * in elements: bytes for a sheet, doubles for a slice of doubles.
+ * A call allocates no memory and keeps nothing after it returns. It reads the sheet, or the scene that it writes a sheet of,
+ * and writes only where its output and scratch pointers point; a running state is an output too. No pointer may be null. No
+ * output or scratch may overlap another one, or anything else that the call reads. Every double is at an address that is a
+ * multiple of 8, every uint32_t at a multiple of 4 and every uint16_t at a multiple of 2; bytes may be at any address. Lengths
+ * are counted in elements: in bytes for a sheet, in doubles for a slice of doubles.
  */
 #ifndef SHEET_H
 #define SHEET_H
