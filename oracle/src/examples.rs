@@ -9,7 +9,7 @@ use crate::plain::body_of;
 use crate::running::{FINISHED, FIRST, Held, Portion, RETRY, Told};
 use crate::sheet::*;
 use crate::trains::{pose_of, worked};
-use crate::trials::off_by;
+use crate::trials::{body, off_by};
 use crate::whole::{answer, by_rounds, report, report_without};
 use crate::{plain, with_gears, with_max01};
 use tenon::{lm, solve};
@@ -94,6 +94,7 @@ pub fn run() -> bool {
     sets(&limits, &mut holds);
     sixty(&mut holds);
     portions(&limits, &mut holds);
+    changed_between(&mut holds);
     scratch(&limits, &mut holds);
     println!("examples of document 01 and of requests 1/14, 5/14, 6/14, 7/14 and 8/14: {count}, {failed} do not hold");
     failed == 0
@@ -216,35 +217,83 @@ fn sixty(holds: &mut impl FnMut(&str, bool)) {
     holds("report names 200", report(&sheet.bytes()).starts_with("converged 1\n") && report_without(&sheet.bytes()).starts_with("converged 0\n"));
 }
 
+/// A call that solves by rounds, with no drag and long slices: it begins, or continues with these counts.
+fn portion_call(set: Set, portion: u32, counts: Option<[u32; 2]>) -> Portion {
+    let lots = 2_000_000;
+    Portion { counts, drag: GROUND, set, portion, state: 1000, scratch: lots, poses: lots, frames: lots, errors: lots }
+}
+/// A running state that no call has written.
+fn unwritten() -> Held {
+    Held { done: 5, run: 9, state: vec![f64::NAN; 1000] }
+}
+fn begun(sheet: &Sheet, set: Set, portion: u32) -> Told {
+    by_rounds(&sheet.bytes(), &portion_call(set, portion, None), &unwritten()).unwrap()
+}
+fn on(sheet: &Sheet, told: &Told, set: Set, portion: u32) -> Told {
+    let mut held = told.held();
+    held.state.resize(1000, f64::NAN);
+    by_rounds(&sheet.bytes(), &portion_call(set, portion, Some(told.counts)), &held).unwrap()
+}
+/// True if a call leaves these counts, rounds done, run and flag, and a state of the length that the counts give.
+fn is(told: &Told, counts: [u32; 2], done: u32, run: u8, flag: bool) -> bool {
+    (told.counts, told.done, told.run, told.flag(), told.state.len() as u32) == (counts, done, run, flag, 1 + 2 * counts[0] + counts[1])
+}
+
+/// Request 6/14: a tolerance of 1e-12 in the first calls and of 1e-3 in the last one. The end is the same state, since no round is made.
+///
+/// A body of 2 mm at the ground's axes. Its point (1, 0, 0) is to be 1/4 mm over the ground's plane through 0 with normal y. With a shift y and
+/// a turn θ about z the row is y + sin θ − 1/4. At 0 its slopes by y and by θ are 1, and by the other unknowns 0; both weights are 1, since half
+/// the size is 1. So J W⁻¹ Jᵀ is 2, and round 1 moves y and θ by half of 1/4 each, but for 1e-10 of it by the damping:
+/// - after round 1 y = θ = 1/8, and the row is sin(1/8) − 1/8 = −3.2527e-4. The damping is a tenth of 1e-10.
+/// - round 2 moves θ by t = c·r/(1 + c²), where c = cos(1/8) is the slope by θ and r = 3.2527e-4, and y by r/(1 + c²). The sine's second order is
+///   left: −sin(1/8)·t²/2 = −1.6487e-9. The damping is a hundredth of 1e-10.
+/// - round 3 leaves less than 1e-12 in the same way.
+///
+/// So with 1e-12 the run needs three rounds. After one and after two the row is over 1e-12 and within 1e-3.
+fn changed_between(holds: &mut impl FnMut(&str, bool)) {
+    let (fine, coarse) = (Set { tolerance: 1e-12, ..Set::PLAIN }, Set { tolerance: 1e-3, ..Set::PLAIN });
+    let plane = End { prim: PLANE, body: GROUND, direction: [0.0, 1.0, 0.0], ..End::default() };
+    let point = End { prim: POINT, body: 0, point: [1.0, 0.0, 0.0], ..End::default() };
+    let over = Relation { law: MATE, offset: 0.25, ends: [plane, point, End::default()], ..Relation::default() };
+    let sheet = Sheet { bodies: vec![body()], relations: vec![over] };
+    let near = |found: &[f64], worked: &[f64], by: f64| found.iter().zip(worked).all(|(f, w)| (f - w).abs() < by);
+
+    // A state is the damping, six unknowns, six of a first run that has not ended, and the row.
+    let one = begun(&sheet, fine, 1);
+    holds("one round is not enough for 1e-12", is(&one, [6, 1], 1, FIRST, false));
+    holds("it moves shift and turn by an eighth", near(&one.state[1..7], &[0.0, 0.125, 0.0, 0.0, 0.0, 0.125], 1e-9));
+    holds("and leaves 3.2527e-4", near(&one.state[13..], &[-3.2526661e-4], 1e-9) && one.state[0] == 1e-10 * 0.1);
+    let two = on(&sheet, &one, fine, 1);
+    holds("two rounds are not enough for 1e-12", is(&two, [6, 1], 2, FIRST, false));
+    holds("and leave 1.6487e-9", near(&two.state[13..], &[-1.6487e-9], 1e-12) && two.state[0] == 1e-10 * 0.1 * 0.1);
+    let three = on(&sheet, &two, fine, 1);
+    holds("three are", is(&three, [6, 1], 3, FINISHED, true) && three.state[13].abs() <= 1e-12);
+
+    // Continued with 1e-3, the run ends before its first round. Unknowns, damping and row are as they are.
+    for (told, done) in [(&one, 1), (&two, 2)] {
+        for portion in [1, 1000] {
+            let end = on(&sheet, told, coarse, portion);
+            holds("1e-3 ends the run with no round", is(&end, [6, 1], done, FINISHED, true) && end.rounds == [0, 0]);
+            holds("and leaves the state as it is", end.held().same(&Held { run: FINISHED, ..told.held() }));
+            let fine_again = on(&sheet, &end, fine, 1000);
+            holds(
+                "1e-12 then gives flag 0 and makes no round",
+                is(&fine_again, [6, 1], done, FINISHED, false) && fine_again.held().same(&end.held()),
+            );
+        }
+    }
+    // Begun with 1e-3, the run ends after round 1.
+    holds("1e-3 alone needs one round", begun(&sheet, coarse, 1000).same(&on(&sheet, &one, coarse, 1)));
+}
+
 /// Request 6/14: when a run ends and when it begins, what is carried over, the flag, and the place of 16 among the tests.
 fn portions(limits: &[(&str, Sheet)], holds: &mut impl FnMut(&str, bool)) {
     let (plain, lots) = (Set::PLAIN, 2_000_000);
     let fine = Set { tolerance: 1e-12, ..plain };
-    let call = |set: Set, portion: u32, counts: Option<[u32; 2]>| Portion {
-        counts,
-        drag: GROUND,
-        set,
-        portion,
-        state: 1000,
-        scratch: lots,
-        poses: lots,
-        frames: lots,
-        errors: lots,
-    };
-    let memory = || Held { done: 5, run: 9, state: vec![f64::NAN; 1000] };
-    let begun = |sheet: &Sheet, set: Set, portion: u32| by_rounds(&sheet.bytes(), &call(set, portion, None), &memory()).unwrap();
-    let on = |sheet: &Sheet, told: &Told, set: Set, portion: u32| {
-        let mut held = told.held();
-        held.state.resize(1000, f64::NAN);
-        by_rounds(&sheet.bytes(), &call(set, portion, Some(told.counts)), &held).unwrap()
-    };
     let named = |name: &str| limits.iter().find(|(n, _)| *n == name).unwrap().1.clone();
     let solved = |sheet: &Sheet, set: Set, told: &Told| {
         let whole = Call::Solve { drag: GROUND, set: Some(set), scratch: lots, poses: lots, frames: lots, errors: lots };
         answer(&sheet.bytes(), whole).is_ok_and(|whole| told.answers(&whole))
-    };
-    let is = |told: &Told, counts: [u32; 2], done: u32, run: u8, flag: bool| {
-        (told.counts, told.done, told.run, told.flag(), told.state.len() as u32) == (counts, done, run, flag, 1 + 2 * counts[0] + counts[1])
     };
 
     // What holds as it stands is finished at once, and so is what nothing moves in.
@@ -308,31 +357,31 @@ fn portions(limits: &[(&str, Sheet)], holds: &mut impl FnMut(&str, bool)) {
     let sheet = example.bytes();
     for run in [0, 4, 255] {
         let held = Held { done: u32::MAX, run, state: vec![0.25; 1000] };
-        let told = by_rounds(&sheet, &call(plain, 1000, Some([6, 3])), &held).unwrap();
+        let told = by_rounds(&sheet, &portion_call(plain, 1000, Some([6, 3])), &held).unwrap();
         holds("another byte", is(&told, [6, 3], u32::MAX, FINISHED, false) && told.state == vec![0.25; 16]);
     }
 
     // 16, after 8 and 15, before 10 and 9.
-    let refused = |call: Portion, number: u32| by_rounds(&sheet, &call, &memory()).is_err_and(|given| given == number);
+    let refused = |call: Portion, number: u32| by_rounds(&sheet, &call, &unwritten()).is_err_and(|given| given == number);
     let none = Set { rounds: 0, ..plain };
     for portion in [0, 1001, u32::MAX] {
         for counts in [None, Some([6, 3])] {
-            holds("16", refused(call(plain, portion, counts), 16));
-            holds("8 before 16", refused(Portion { drag: 1, ..call(plain, portion, counts) }, 8));
-            holds("15 before 16", refused(call(none, portion, counts), 15));
-            holds("16 before 10", refused(Portion { state: 15, ..call(plain, portion, counts) }, 16));
-            holds("16 before 9", refused(Portion { scratch: 0, ..call(plain, portion, counts) }, 16));
+            holds("16", refused(portion_call(plain, portion, counts), 16));
+            holds("8 before 16", refused(Portion { drag: 1, ..portion_call(plain, portion, counts) }, 8));
+            holds("15 before 16", refused(portion_call(none, portion, counts), 15));
+            holds("16 before 10", refused(Portion { state: 15, ..portion_call(plain, portion, counts) }, 16));
+            holds("16 before 9", refused(Portion { scratch: 0, ..portion_call(plain, portion, counts) }, 16));
         }
     }
     for counts in [[5, 3], [7, 3], [6, 2], [6, 4], [0, 0], [3, 6]] {
-        holds("16 for the counts", refused(call(plain, 1, Some(counts)), 16));
+        holds("16 for the counts", refused(portion_call(plain, 1, Some(counts)), 16));
     }
     for counts in [None, Some([6, 3])] {
         for portion in [1, 1000] {
-            let accepted = |state: usize| by_rounds(&sheet, &Portion { state, ..call(plain, portion, counts) }, &memory()).map(|_| ());
+            let accepted = |state: usize| by_rounds(&sheet, &Portion { state, ..portion_call(plain, portion, counts) }, &unwritten()).map(|_| ());
             holds("a state of 16 doubles", accepted(16) == Ok(()) && accepted(15) == Err(10));
         }
-        holds("10 before 9", refused(Portion { state: 15, scratch: 0, ..call(plain, 1, counts) }, 10));
+        holds("10 before 9", refused(Portion { state: 15, scratch: 0, ..portion_call(plain, 1, counts) }, 10));
     }
 }
 
