@@ -7,10 +7,10 @@
 # own constants, 200 rounds among them, and so does report. Sheets with gears, which tenon does not have, are compared with the second
 # program's rows (src/gear.rs), put into a copy of tenon; the call that writes a sheet, which tenon does not have either, with a second
 # writer (src/writing.rs); the number that opening a sheet gives, on sheets with any byte changed, with the oracle's own reader
-# (src/sheet.rs). The example examples/settle.c is run, which solves by rounds and at once. Every comparison prints how much it compared.
-# Ends with 0 if nothing differs and every kind of case that is wanted was met. Where tenon's sources or rustc are missing it says that
-# nothing was compared, and ends with 0, or with 1 if CI is set; where cc is missing it says so of the example, and goes on, or ends with 1
-# if CI is set.
+# (src/sheet.rs). The example examples/settle.c, which solves by rounds and at once, is built as C11 and as C++, a warning being an error, and
+# run. Every comparison prints how much it compared. Ends with 0 if nothing differs and every kind of case that is wanted was met. Where
+# tenon's sources or rustc are missing it says that nothing was compared, and ends with 0, or with 1 if CI is set; where cc or c++ is missing
+# it says so of the example, and goes on, or ends with 1 if CI is set.
 # Takes 100 to 180 s on two cores, by what else they do.
 set -u
 cd "$(dirname "$0")" || exit 2
@@ -75,10 +75,11 @@ lists_and_rows() {
     python3 exact_rows.py build/lists 1 2000 || good=1
     return $good
 }
-# The example that solves by rounds: a C program over include/sheet.h.
-settled() {
-    local said
-    said=$(../examples/settle.sh ../examples/movement.sheet 2>&1) || { echo "$said"; return 1; }
+# The example that solves by rounds, as C by cc or as C++ by c++.
+settled() { # COMPILER
+    local program said
+    program=$(../examples/build.sh settle "$1") || return 1
+    said=$("$program" ../examples/movement.sheet 2>&1) || { echo "$said"; return 1; }
     echo "$said"
     grep -qx "round by round and at once agree" <<<"$said"
 }
@@ -125,13 +126,15 @@ step build/oracle gears 6 600 ../tools/report.sh
 step build/oracle bare 23 400 ../examples/*.sheet build/examples/jammed.sheet
 step build/oracle parameters 7 800 ../examples/*.sheet
 step build/oracle portions 11 800 ../examples/*.sheet
-if command -v cc >/dev/null; then
-    step settled
-elif [ -n "${CI:-}" ]; then
-    fail "no cc for examples/settle.c, and CI is set"
-else
-    echo "oracle: no cc: examples/settle.c was not run"
-fi
+for compiler in cc c++; do
+    if command -v "$compiler" >/dev/null; then
+        step settled "$compiler"
+    elif [ -n "${CI:-}" ]; then
+        fail "no $compiler for examples/settle.c, and CI is set"
+    else
+        echo "oracle: no $compiler: examples/settle.c was not run"
+    fi
+done
 step build/oracle opening
 step build/oracle write 4 12000 ../examples/*.sheet
 step lists_and_rows
