@@ -7,10 +7,11 @@
 # own constants, 200 rounds among them, and so does report. Sheets with gears, which tenon does not have, are compared with the second
 # program's rows (src/gear.rs), put into a copy of tenon; the call that writes a sheet, which tenon does not have either, with a second
 # writer (src/writing.rs); the number that opening a sheet gives, on sheets with any byte changed, with the oracle's own reader
-# (src/sheet.rs). The example examples/settle.c, which solves by rounds and at once, is built as C11 and as C++, a warning being an error, and
-# run. Every comparison prints how much it compared. Ends with 0 if nothing differs and every kind of case that is wanted was met. Where
-# tenon's sources or rustc are missing it says that nothing was compared, and ends with 0, or with 1 if CI is set; where cc or c++ is missing
-# it says so of the example, and goes on, or ends with 1 if CI is set.
+# (src/sheet.rs). The programs in examples/ are built as C11 and as C++, a warning being an error, and run: settle.c, which solves by rounds
+# and at once, and calls.c, which calls every function of include/sheet.h and must print what the Rust answers. Every comparison prints how
+# much it compared. Ends with 0 if nothing differs and every kind of case that is wanted was met. Where tenon's sources or rustc are missing
+# it says that nothing was compared, and ends with 0, or with 1 if CI is set; where cc or c++ is missing it says so of the programs in
+# examples/, and goes on, or ends with 1 if CI is set.
 # Takes 100 to 180 s on two cores, by what else they do.
 set -u
 cd "$(dirname "$0")" || exit 2
@@ -83,6 +84,27 @@ settled() { # COMPILER
     echo "$said"
     grep -qx "round by round and at once agree" <<<"$said"
 }
+# What the example that makes every call is held to: examples/calls.txt is what the Rust answers, and the source calls
+# every function that include/sheet.h declares.
+calls_expected() {
+    local call count=0 wrong=0
+    build/oracle calls "${example_sheets[@]}" >build/calls.txt || wrong=1
+    diff ../examples/calls.txt build/calls.txt || { echo "examples/calls.txt is not what the Rust answers"; wrong=1; }
+    for call in $(grep -oE '\bsheet_[a-z_]+\(' ../include/sheet.h | sort -u); do
+        count=$((count + 1))
+        grep -qE "\b${call%(}\(" ../examples/calls.c || { echo "examples/calls.c does not call ${call%(}"; wrong=1; }
+    done
+    echo "calls expected: $(wc -l <build/calls.txt) lines of the Rust's answers about ${#example_sheets[@]} sheets, $count functions"
+    [ $wrong -eq 0 ] && [ $count -gt 0 ]
+}
+# What that example prints, as C by cc or as C++ by c++.
+called() { # COMPILER
+    local program said
+    program=$(../examples/build.sh calls "$1") || return 1
+    said=$("$program" "${example_sheets[@]}" 2>&1) || { echo "$said"; return 1; }
+    diff ../examples/calls.txt - <<<"$said" || return 1
+    echo "calls: $(wc -l <<<"$said") lines as examples/calls.txt has them"
+}
 
 # Starts a step, as many at a time as there are processors. What it says is printed, in the order of starting, once it has ended.
 steps=() shown=0 processors=$(nproc 2>/dev/null || echo 1)
@@ -111,6 +133,7 @@ show() {
     done
 }
 
+example_sheets=(../examples/{worked,movement,train,impossible}.sheet)
 ./build.sh || { fail "FAILED: build.sh"; exit 1; }
 echo "oracle: built ($SECONDS s)"
 rm -rf build/steps
@@ -126,13 +149,15 @@ step build/oracle gears 6 600 ../tools/report.sh
 step build/oracle bare 23 400 ../examples/*.sheet build/examples/jammed.sheet
 step build/oracle parameters 7 800 ../examples/*.sheet
 step build/oracle portions 11 800 ../examples/*.sheet
+step calls_expected
 for compiler in cc c++; do
     if command -v "$compiler" >/dev/null; then
         step settled "$compiler"
+        step called "$compiler"
     elif [ -n "${CI:-}" ]; then
-        fail "no $compiler for examples/settle.c, and CI is set"
+        fail "no $compiler for the programs in examples/, and CI is set"
     else
-        echo "oracle: no $compiler: examples/settle.c was not run"
+        echo "oracle: no $compiler: the programs in examples/ were not built with it"
     fi
 done
 step build/oracle opening

@@ -8,6 +8,7 @@ mod answer;
 mod arguments;
 mod bare;
 mod bench;
+mod calls_text;
 mod compare;
 mod cover;
 mod edges;
@@ -69,6 +70,7 @@ oracle report < FILE          what the program report prints
 oracle gen SEED N DIR         N valid sheets, written as DIR/NNNN.sheet, and what they cover
 oracle cover SEED N           all calls on N valid and N damaged sheets, the limits, joints of many turns: counts, branches, max
 oracle examples               document 01's own examples, asked of the oracle
+oracle calls FILE..           what examples/calls.c prints about these sheets, from the Rust's answers
 oracle arcs N                 the linked root, sine, cosine and arctangent at their edges and on about 5N arguments
 oracle bench                  time per call of the linked arcs and root beside Rust's own
 oracle bench FILE..           time of the linked opening, `solve`, `dof` and writing on these sheets beside the Rust's
@@ -114,6 +116,7 @@ fn main() {
         ["bench"] => bench::run(),
         ["bench", ref files @ ..] => bench::sheets(files),
         ["examples"] => examples::run(),
+        ["calls", ref files @ ..] => calls_text::run(files),
         ["lists", dir] => lists::write(dir, 1),
         ["lists", dir, scale] => lists::write(dir, number(scale)),
         _ => {
