@@ -14,13 +14,14 @@ use lib.Ieee.Exact.{HasValue}
 use lib.Ieee.Positive.{num, den, den-pos, positive, first-pos, value→cross}
 use borrow.Author.Tests.{ltb-true, le-ltb, leb-false}
 use Rattle.numbers.specs.Double.{negative}
+use Rattle.numbers.specs.Bits.{field, significand, exponent}
 use Rattle.numbers.proofs.DoubleLaws.{negative-bits}
 use Rattle.numbers.proofs.CloseLaws.{ring}
+use Rattle.numbers.proofs.ValueOrder.{le-says}
+use Rattle.numbers.proofs.BitLaws.{significand-low, significand-normal, exponent-is, by-bits}
 use Rattle.arcs.specs.Arcs.{tau, far}
-use Rattle.arcs.specs.RootSteps.{field, significand, exponent}
 use Rattle.arcs.specs.TurnSteps.{Steps}
-use Rattle.arcs.proofs.Magnitudes.{le-says}
-use Rattle.arcs.proofs.root.Bits.{significand-low, significand-normal, exponent-is, positive-no-nan, by-bits}
+use Rattle.arcs.proofs.root.Bits.{positive-no-nan}
 
 -- what the two tests say
 pub record Between (t : Float) : Type 0 where

@@ -14,7 +14,8 @@ use lib.Ieee.Order.{round-mono}
 use lib.Ieee.Positive.{num, den, den-pos, own-value}
 use Rattle.arcs.specs.Arcs.{tau1, turns, far, lessTurns}
 use Rattle.arcs.specs.TurnSteps.{firstPart, secondPart, turn}
-use Rattle.arcs.proofs.Magnitudes.{round-at-most, of-round, le-says}
+use Rattle.numbers.proofs.ValueOrder.{le-says}
+use Rattle.arcs.proofs.Magnitudes.{round-at-most, of-round}
 use Rattle.arcs.proofs.FarLaws.{far-between}
 use Rattle.arcs.proofs.TurnLaws.{turns-in-fractions}
 use Rattle.arcs.proofs.LeftLaws.{first-value, second-is}

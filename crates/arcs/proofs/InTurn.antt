@@ -23,7 +23,8 @@ use Rattle.arcs.proofs.FarLaws.{units46, far-value}
 use Rattle.arcs.proofs.TurnLaws.{turns-fit, turns-over}
 use Rattle.arcs.proofs.LeftLaws.{left-is, left-value, second-is}
 use Rattle.arcs.proofs.FarRange.{parts, few-turns}
-use Rattle.arcs.proofs.Values.{rounded, rescaled, sub-level, le-values}
+use Rattle.numbers.proofs.ValueOrder.{le-values}
+use Rattle.arcs.proofs.Values.{rounded, rescaled, sub-level}
 
 -- ---- a rounded number not above T
 of-value : (x : Float) (a c : ℕ) → HasValue x false a c → T (le x tau) → In-turn x

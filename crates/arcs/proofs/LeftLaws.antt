@@ -18,7 +18,8 @@ use Rattle.numbers.proofs.DoubleLaws.{round-number, sum-number}
 use Rattle.arcs.specs.Arcs.{tau1, tau2, turns}
 use Rattle.arcs.specs.TurnSteps.{firstPart, secondPart}
 use Rattle.arcs.proofs.TurnLaws.{turns-is}
-use Rattle.arcs.proofs.Values.{rounded, rescaled, mul-values, sub-level, sub-values-under, le-values, lt-values}
+use Rattle.numbers.proofs.ValueOrder.{le-values, lt-values}
+use Rattle.arcs.proofs.Values.{rounded, rescaled, mul-values, sub-level, sub-values-under}
 
 tau1-value : HasValue tau1 false firstPart (2 ^ 30)
 unfolding ofBits

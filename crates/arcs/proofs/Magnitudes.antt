@@ -2,17 +2,17 @@
 use Prim.Native.Nat.{ℕ, zero, suc, _+_, _-_, _*_, _^_, _≤_, _<_}
 use native.Mathlib.Nat.{le-of-eq, mul-le-mul, mul-le-mul-right, le-of-mul-le-mul-right, le-trans, mul-pos, zero-mul}
 use native.Mathlib.Omega.{arith}
-use mathlib.Core.Path.{_≡_, refl, sym, subst}
-use mathlib.Core.Logic.{_⊎_, inl, inr, ⊎-elim}
-use mathlib.Core.Bool.{Bool, true, false, _&&_, _||_, cond}
+use mathlib.Core.Path.{_≡_}
+use mathlib.Core.Bool.{Bool, true, false, cond}
 use lib.IntN.{ℤ}
-use lib.Dec.{T, ltb, eqb, ltb→lt, eqb→eq}
+use lib.Dec.{T, ltb}
 use lib.Ieee.{Float, nan, inf, fin, Format, binary64, prec, low, emax, up, down, round, units, odd, sum, add, sub, mul, div, neg, lt, le, eq}
 use lib.Ieee.Fits.{up-pos, down-pos, round-is}
 use lib.Ieee.Order.{round-mono}
 use lib.Ieee.Positive.{through}
 use borrow.Author.Tests.{ne-eqb}
 use Rattle.numbers.proofs.CloseLaws.{ring}
+use Rattle.numbers.proofs.ValueOrder.{le-says}
 
 -- x is finite, of magnitude at most p / r
 abbrev pub AtMostOf : ℕ → ℕ → Float → Type 0
@@ -21,14 +21,6 @@ AtMostOf p r (inf s) = ⊥
 AtMostOf p r (fin s m e) = m * up e * r ≤ p * down e
 
 -- ---- rounding
-either : (x y c : Bool) → T (x || (y && c)) → T x ⊎ T y
-either true y c t = inl tt
-either false true c t = inr tt
-either false false c t = absurd t
-
-pub le-says : (a b : ℕ) (c : Bool) → T (ltb a b || (eqb a b && c)) → a ≤ b
-le-says a b c t = ⊎-elim (λ l. let h = ltb→lt a b l in omega arith) (λ q. let h = eqb→eq a b q in omega arith) (either (ltb a b) (eqb a b) c t)
-
 module _ (p r : ℕ) where
   signless : (f : Format) (s : Bool) (q k : ℕ) → AtMostOf p r (units f false q k) → AtMostOf p r (units f s q k)
   unfolding units odd

@@ -1,18 +1,17 @@
--- Numbers without a sign by the fractions that they are: the same number as another fraction, products, differences and order; and what a rounded number may be. Assumes nothing.
+-- Numbers without a sign by the fractions that they are: the same number as another fraction, products and differences; and what a rounded number may be. Assumes nothing.
 use Prim.Native.Nat.{ℕ, _-_, _*_, _^_, _≤_, _<_}
 use native.Mathlib.Nat.{lt-of-not-le, not-le-of-lt, mul-le-mul-right, mul-pos, mul-assoc, mul-comm, mul-right-comm, mul-mul-mul-comm, mul-sub, eq-of-mul-eq-mul-right}
 use mathlib.Core.Path.{_≡_, sym, ap, _∙_}
 use mathlib.Core.Bool.{Bool, true, false, cond, true≢false}
 use lib.IntN.{ℤ}
-use lib.Dec.{T, ltb, ltb→lt}
-use lib.Ieee.{Float, nan, inf, fin, binary64, up, down, odd, units, round, sum, add, sub, mul, neg, lt, le}
+use lib.Dec.{ltb}
+use lib.Ieee.{Float, nan, inf, fin, binary64, up, down, odd, units, round, sum, add, sub, mul, neg}
 use lib.Ieee.Fits.{down-pos, round-is}
 use lib.Ieee.Exact.{HasValue, odd-sign}
 use lib.Ieee.Scale.{round-same}
 use lib.Ieee.Order.{transfer}
 use borrow.Author.Tests.{lt-ltb, le-ltb}
 use Rattle.numbers.proofs.CloseLaws.{ring}
-use Rattle.arcs.proofs.Magnitudes.{le-says}
 
 pub rescaled : (x : Float) (s : Bool) (a c p r : ℕ) → 0 < c → p * c ≡ a * r → HasValue x s a c → HasValue x s p r
 rescaled nan s a c p r C e v = v
@@ -44,27 +43,6 @@ module _ (a c b d : ℕ) (C : 0 < c) (D : 0 < d) where
   mul-values (fin false m e) (fin true n g) h k = absurd (true≢false (k .0))
   mul-values (fin false m e) (fin false n g) h k =
       round-same binary64 false (m * up e * (n * up g)) (down e * down g) (a * b) (c * d) (mul-pos (down-pos e) (down-pos g)) (mul-pos C D) (product (m * up e) (down e) (n * up g) (down g) a c b d (h .1) (k .1))
-
-  pub le-values : (x y : Float) → HasValue x false a c → HasValue y false b d → T (le x y) → a * d ≤ b * c
-  unfolding le
-  le-values nan y h k l = absurd h
-  le-values (inf s) y h k l = absurd h
-  le-values (fin true m e) y h k l = absurd (true≢false (h .0))
-  le-values (fin false m e) nan h k l = absurd k
-  le-values (fin false m e) (inf t) h k l = absurd k
-  le-values (fin false m e) (fin true n g) h k l = absurd (true≢false (k .0))
-  le-values (fin false m e) (fin false n g) h k l = transfer a b c d (m * up e) (n * up g) (down e) (down g) (down-pos e) (down-pos g) (sym (h .1)) (sym (k .1)) (le-says _ _ true l)
-
-  pub lt-values : (x y : Float) → HasValue x false a c → HasValue y false b d → T (lt x y) → a * d < b * c
-  unfolding lt
-  lt-values nan y h k l = absurd h
-  lt-values (inf s) y h k l = absurd h
-  lt-values (fin true m e) y h k l = absurd (true≢false (h .0))
-  lt-values (fin false m e) nan h k l = absurd k
-  lt-values (fin false m e) (inf t) h k l = absurd k
-  lt-values (fin false m e) (fin true n g) h k l = absurd (true≢false (k .0))
-  lt-values (fin false m e) (fin false n g) h k l =
-      lt-of-not-le (λ (q : b * c ≤ a * d). not-le-of-lt (ltb→lt _ _ l) (transfer (n * up g) (m * up e) (down g) (down e) b a d c D C (k .1) (h .1) q))
 
   -- the two sides of a difference
   module _ (m n : ℕ) (e g : ℤ) (h : m * up e * c ≡ a * down e) (k : n * up g * d ≡ b * down g) where

@@ -1,19 +1,6 @@
 -- The words of the contracts of `root`'s own steps. Definitions only.
-use Prim.Native.Nat.{ℕ, _+_, _-_, _*_, _/_, _%_, _^_, _≤_, _<_}
+use Prim.Native.Nat.{ℕ, _+_, _*_, _^_, _≤_, _<_}
 use mathlib.Core.Path.{_≡_}
-use mathlib.Core.Bool.{cond}
-use lib.Dec.{eqb}
-
--- The double with the bits b, if finite, is `significand b * 2 ^ exponent b` times 2 ^ -1074: the exponent's field counts from 1, and 0 there counts as 1 and means that
--- the leading digit is 0.
-abbrev pub field : ℕ → ℕ
-field b = b % 2 ^ 63 / 2 ^ 52
-
-unfoldable pub significand : ℕ → ℕ
-significand b = cond (eqb (field b) 0) (b % 2 ^ 52) (2 ^ 52 + b % 2 ^ 52)
-
-unfoldable pub exponent : ℕ → ℕ
-exponent b = field b - 1
 
 -- n * 2 ^ e is m * 2 ^ 52 * 4 ^ k, and m has 53 or 54 digits
 pub record Even (n e m k : ℕ) : Type 0 where

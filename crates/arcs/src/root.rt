@@ -3,8 +3,9 @@
 ghost use Prim.Native.Nat.{_+_, _*_, _/_, _%_, _^_, _≤_, _<_};
 ghost use lib.Dec.{T};
 ghost use lib.Ieee.Positive.{positive};
+ghost use Rattle.numbers.specs.Bits.{field, significand, exponent};
 ghost use Rattle.arcs.specs.Root.{CorrectRoot};
-ghost use Rattle.arcs.specs.RootSteps.{field, significand, exponent, Even, WholeRoot, Squared, Flag};
+ghost use Rattle.arcs.specs.RootSteps.{Even, WholeRoot, Squared, Flag};
 
 // the weights of the exponent's field and of the sign in a double's bits: 2^52 and 2^63
 const FIELD: u64 = 0x10_0000_0000_0000;

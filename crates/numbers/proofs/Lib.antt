@@ -12,3 +12,6 @@ pub mod HornerNear
 pub mod SumNear
 pub mod ZeroLaws
 pub mod ListedLaws
+pub mod ValueOrder
+pub mod BitLaws
+pub mod BitOrder

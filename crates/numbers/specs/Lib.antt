@@ -1,5 +1,6 @@
 pub mod Frac
 pub mod Double
+pub mod Bits
 pub mod Ops
 pub mod Horner
 pub mod Sum

@@ -1,6 +1,6 @@
 -- `arcs::root::opened` meets its contract: significand and exponent by the field (`Bits.antt`). Assumes nothing.
 use native.Mathlib.Omega.{arith}
-use Rattle.arcs.proofs.root.Bits.{significand-low, significand-normal, exponent-is}
+use Rattle.numbers.proofs.BitLaws.{significand-low, significand-normal, exponent-is}
 use borrow.Author.Needs.{needs}
 use Rattle.arcs.proofs.root.opened.Statement.{statement}
 use Rattle.arcs.proofs.root.opened.Tie as tie

@@ -4,7 +4,8 @@ use Prim.Native.Nat.{_+_, _*_, _^_}
 use native.Mathlib.Omega.{arith}
 use lib.Dec.{T}
 use lib.Ieee.{binary64, fits}
-use Rattle.arcs.proofs.root.Bits.{positive-no-nan, significand-pos, field-finite, Joined, root-joined, root-no-nan, root-found}
+use Rattle.numbers.proofs.BitLaws.{significand-pos, field-finite}
+use Rattle.arcs.proofs.root.Bits.{positive-no-nan, Joined, root-joined, root-no-nan, root-found}
 use borrow.Author.Needs.{needs}
 use Rattle.arcs.proofs.root.positive_root.Statement.{statement}
 use Rattle.arcs.proofs.root.positive_root.Tie as tie
