@@ -14,6 +14,5 @@ pub mod TurnsNear
 pub mod RootNearest
 pub mod RootLaws
 pub mod NanQuotient
-pub mod RoundSelf
 pub mod Remainder
 pub mod Tests
