@@ -1,7 +1,7 @@
 -- Words of eight bytes as whole numbers: a word is 0 exactly where its eight bytes are, and words joined by `|` have the highest bit exactly where one of them has. Assumes
 -- nothing.
-use mathlib.Core.Path.{_≡_, refl, sym}
-use mathlib.Core.Bool.{Bool, true, false, _&&_, and-true, and-false, and-assoc}
+use mathlib.Core.Path.{_≡_, sym}
+use mathlib.Core.Bool.{Bool, _&&_, and-true, and-false, and-assoc}
 use mathlib.Core.List.{List}
 use Prim.Native.Nat.{ℕ, zero, suc, _+_, _*_, _^_, _<_}
 use native.Mathlib.Nat.{add-assoc, add-suc, add-zero, zero-mul, suc-mul}

@@ -1,4 +1,5 @@
-// Fields tested by words of eight bytes, read as whole numbers: unused bytes for 0, and doubles, by their bits, for their limits. specs/Words.antt says what a word tells of doubles.
+// Fields tested by words of eight bytes, read as whole numbers: unused bytes for 0, and doubles, by their bits, for their
+// limits. specs/Words.antt has the words and says what a word tells of doubles.
 
 use records::record::u64_at;
 ghost use mathlib.Core.Path.{_≡_};
@@ -7,7 +8,7 @@ ghost use lib.ListN.{length};
 ghost use lib.Ieee.{binary64, ofBits};
 ghost use Rattle.records.specs.Record as fields;
 ghost use Rattle.records.specs.Limits as limits;
-ghost use Rattle.format.specs.Words.{Tells, belowSign};
+ghost use Rattle.format.specs.Words.{IsWord, belowSign, doubleWord, vecWord};
 
 // The sign among the bits of a double, the highest of a word.
 const SIGN: u64 = 0x8000_0000_0000_0000;
@@ -41,12 +42,13 @@ pub fn zero_bytes(s: &[u8], o: usize, n: usize) -> bool
     zero
 }
 
-// Tells whether the double at o is over the limit, which is given by its bits. Without the sign doubles are in the order of their bits, with NaNs last, so that the sum reaches SIGN
-// exactly where the double is over the limit.
+// Tells whether the double at o is over the limit, which is given by its bits. Without the sign doubles are in the order of
+// their bits, with NaNs last, so that the sum reaches SIGN exactly where the double is over the limit.
 pub fn double_over(limit: u64, s: &[u8], o: usize) -> u64
     requires { ⌜ limit < 0x7FF0_0000_0000_0000 ⌝ }
     requires { ⌜ o + 8 ≤ length (now s) ⌝ }
-    ensures { λ r. ⌜ Tells r (limits.within (ofBits binary64 limit) (fields.doubleAt (now (s .entry)) o)) ⌝ }
+    ensures { λ r. ⌜ IsWord r (doubleWord limit (now (s .entry)) o)
+        (limits.within (ofBits binary64 limit) (fields.doubleAt (now (s .entry)) o)) ⌝ }
 {
     u64_at(s, o) % SIGN + (SIGN - 1 - limit)
 }
@@ -55,7 +57,8 @@ pub fn double_over(limit: u64, s: &[u8], o: usize) -> u64
 pub fn vec_over(limit: u64, s: &[u8], o: usize) -> u64
     requires { ⌜ limit < 0x7FF0_0000_0000_0000 ⌝ }
     requires { ⌜ o + 24 ≤ length (now s) ⌝ }
-    ensures { λ r. ⌜ Tells r (limits.withinV (ofBits binary64 limit) (fields.vecAt (now (s .entry)) o)) ⌝ }
+    ensures { λ r. ⌜ IsWord r (vecWord limit (now (s .entry)) o)
+        (limits.withinV (ofBits binary64 limit) (fields.vecAt (now (s .entry)) o)) ⌝ }
 {
     let x = double_over(limit, s, o);
     let y = double_over(limit, s, o + 8);

@@ -50,7 +50,7 @@ returns : tie.Need-returns
 unfolding bodyLimits
 returns c =
     c .none-over .ensures
-    ∙ (both (c .before .before .before .before .before .before .vec-over .ensures) (both (c .before .before .before .before .before .vec-over2 .ensures) (both (c .before .before .before .before .vec-over3 .ensures) (both (c .before .before .before .vec-over4 .ensures) (both (c .before .before .vec-over5 .ensures) (c .before .double-over .ensures)))))) .told
+    ∙ (both (c .before .before .before .before .before .before .vec-over .ensures .tells) (both (c .before .before .before .before .before .vec-over2 .ensures .tells) (both (c .before .before .before .before .vec-over3 .ensures .tells) (both (c .before .before .before .vec-over4 .ensures .tells) (both (c .before .before .vec-over5 .ensures .tells) (c .before .double-over .ensures .tells)))))) .told
 
 pub body-limits-spec : {M : Type 1} → statement M
 body-limits-spec =

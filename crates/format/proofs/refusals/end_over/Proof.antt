@@ -33,7 +33,7 @@ double-over-requires-2 c κs = search needs
 returns : tie.Need-returns
 unfolding endLimits
 returns c =
-    both (c .before .before .before .vec-over .ensures) (both (c .before .before .vec-over2 .ensures) (both (c .before .double-over .ensures) (c .double-over2 .ensures)))
+    both (c .before .before .before .vec-over .ensures .tells) (both (c .before .before .vec-over2 .ensures .tells) (both (c .before .double-over .ensures .tells) (c .double-over2 .ensures .tells)))
 
 pub end-over-spec : {M : Type 1} → statement M
 end-over-spec =

@@ -50,7 +50,7 @@ returns : tie.Need-returns
 unfolding relLimits
 returns c =
     c .none-over .ensures
-    ∙ (both (c .before .before .before .before .before .before .double-over .ensures) (both (c .before .before .before .before .before .double-over2 .ensures) (both (c .before .before .before .before .vec-over .ensures) (both (c .before .before .before .end-over .ensures) (both (c .before .before .end-over2 .ensures) (c .before .end-over3 .ensures)))))) .told
+    ∙ (both (c .before .before .before .before .before .before .double-over .ensures .tells) (both (c .before .before .before .before .before .double-over2 .ensures .tells) (both (c .before .before .before .before .vec-over .ensures .tells) (both (c .before .before .before .end-over .ensures) (both (c .before .before .end-over2 .ensures) (c .before .end-over3 .ensures)))))) .told
 
 pub rel-limits-spec : {M : Type 1} → statement M
 rel-limits-spec =

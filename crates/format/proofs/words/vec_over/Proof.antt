@@ -1,6 +1,7 @@
--- `format::words::vec_over` meets its contract: the definition unfolds to the tests of the three coordinates; joined, the words tell what each of them tells (`both`), and that
--- one call promises of each. Assumes nothing.
+-- `format::words::vec_over` joins the words of three doubles: the definitions unfold to the three coordinates; joined, the
+-- words tell what each of them tells (`both`), and that one call promises of each. Assumes nothing.
 use Rattle.records.specs.Limits.{withinV}
+use Rattle.format.specs.Words.{vecWord}
 use Rattle.format.proofs.WordLaws.{both}
 use borrow.Author.Needs.{needs}
 use Rattle.format.proofs.words.vec_over.Statement.{statement}
@@ -22,9 +23,12 @@ double-over-requires-3 : tie.Need-double-over-requires-3
 double-over-requires-3 c κs = search needs
 
 returns : tie.Need-returns
-unfolding withinV
+unfolding withinV vecWord
 returns c =
-    both (c .before .before .double-over .ensures) (both (c .before .double-over2 .ensures) (c .double-over3 .ensures))
+    let x = c .before .before .double-over .ensures in
+    let y = c .before .double-over2 .ensures in
+    let z = c .double-over3 .ensures in
+    record { bits = rw (x .bits, y .bits, z .bits); tells = both (x .tells) (both (y .tells) (z .tells)) }
 
 pub vec-over-spec : {M : Type 1} → statement M
 vec-over-spec =
