@@ -9,13 +9,6 @@ use mathlib.Core.List.{Permᴰ·append-nil}
 use mathlib.Core.List.{Pairwise, Pairwise·nil, Pairwise·cons, pairwise-cons, pairwise-singleton, pairwise-reverse}
 use Rattle.eigen.specs.Sort.{insertLast, sortLast, sort, Order, Ordered, level, keep}
 
-pub transitive : {A : Type 0} {before : A → A → Bool} → Order before → (x y z : A) → before x y ≡ true → before y z ≡ true → before x z ≡ true
-transitive {before = before} o x y z e h = go (before x z) refl
-  where
-    go : (b : Bool) → before x z ≡ b → before x z ≡ true
-    go true k = k
-    go false k = absurd (true≢false (sym e ∙ o .carries x z y k (o .asymmetric y z h)))
-
 -- the order of a measure, upward and downward
 pub order-up : {A B : Type 0} {before : B → B → Bool} → Order before → (f : A → B) → Order (λ x y. before (f x) (f y))
 order-up o f = record { asymmetric = λ x y. o .asymmetric (f x) (f y); carries = λ x y z. o .carries (f x) (f y) (f z) }

@@ -210,7 +210,3 @@ rows-packed (a ∷ b ∷ c ∷ d ∷ e ∷ []) h = refl
 rows-packed (a ∷ b ∷ c ∷ d ∷ e ∷ f ∷ []) h = refl
 rows-packed (a ∷ b ∷ c ∷ d ∷ e ∷ f ∷ g ∷ []) h = refl
 rows-packed (a ∷ b ∷ c ∷ d ∷ e ∷ f ∷ g ∷ h ∷ l) k = absurd (omega arith)
-
--- what `residual` hands on are its rows
-pub residual-packed : (law : Law) (a b : End) (qa qb qs : Pose Float) → rowsOf (pack (residual law a b qa qb qs)) ≡ residual law a b qa qb qs
-residual-packed law a b qa qb qs = rows-packed (residual law a b qa qb qs) (rw residual-length (row-count-le law (a .prim) (b .prim)))

@@ -19,16 +19,7 @@ part-length s o k h = length-take-le k (drop o s) (simp length-drop (omega arith
 pub part-at : (s : List Float) (o k i : ℕ) (d : Float) → i < k → getD (part s o k) i d ≡ getD s (o + i) d
 part-at s o k i d h = rw (getD-take, getD-drop)
 
--- a store before, behind and within a part
-pub part-set-below : (s : List Float) (o k j : ℕ) (v : Float) → j < o → part (set s j v) o k ≡ part s o k
-part-set-below s o k j v h = ap (take k) (drop-set-lt o s j v h)
-
-pub part-set-above : (s : List Float) (o k j : ℕ) (v : Float) → o + k ≤ j → part (set s j v) o k ≡ part s o k
-part-set-above s o k j v h =
-    let e : o + (j - o) ≡ j = omega arith in
-    let l : k ≤ j - o = omega arith in
-    rw (← e, drop-set-add, take-set-le k (drop o s) (j - o) v l)
-
+-- a store within a part
 pub part-set : (s : List Float) (o k i : ℕ) (v : Float) → i < k → part (set s (o + i) v) o k ≡ set (part s o k) i v
 part-set s o k i v h = rw (drop-set-add, take-set-lt)
 

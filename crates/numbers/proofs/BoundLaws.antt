@@ -1,16 +1,14 @@
 -- A formula over `Ops` bounded by evaluation. Read on `bounded`, whose numbers carry a double, a fraction, a bound and the proof that they are near, it is its own proof: the
 -- double is the formula on doubles, the fraction the formula on fractions, the bound the formula on `bounds`. Assumes nothing.
-use mathlib.Core.Logic.{_⊎_, inl, inr}
 use Prim.Native.Nat.{ℕ, zero, suc, _+_, _*_, _/_, _≤_, _<_, max}
 use native.Mathlib.Nat.{not-suc-le-zero, le-of-suc-le-suc, le-trans, mul-le-mul-right, le-of-mul-le-mul-right, le-max-left, le-max-right, lt-div-mul-add}
 use native.Mathlib.Omega.{arith}
-use mathlib.Core.Bool.{Bool, true, false, _&&_, _||_, cond}
+use mathlib.Core.Bool.{Bool, true, false, _&&_, cond}
 use mathlib.Core.List.{List, [], _∷_, map}
-use lib.ListN.{length, getD, replicate}
-use mathlib.Core.Path.{_≡_, refl, ap}
-use lib.Dec.{T, leb, ltb, eqb, eqb→eq, leb→le}
+use lib.ListN.{length, getD}
+use lib.Dec.{T, leb, leb→le}
 use lib.IntN.{ℤ}
-use lib.Ieee.{Float, nan, inf, fin, up, down, binary64, add, sub, mul, neg, lt, le}
+use lib.Ieee.{Float, nan, inf, fin, up, down, binary64, add, sub, mul, neg, le}
 use lib.Ieee.Fits.{and-l, and-r, down-pos}
 use Rattle.numbers.specs.Frac.{Frac, fracOf, addQ, subQ, mulQ, negQ, ltQ, maxQ}
 use Rattle.numbers.specs.Double.{abs, fmax}
@@ -20,8 +18,9 @@ use Rattle.numbers.proofs.CloseLaws.{AtMost, ring}
 use Rattle.numbers.specs.Near.{Bound, Near, S, signed, partsOf, addBound, mulBound, exactly}
 use Rattle.numbers.specs.Bound.{maxBound, constBound, Small, AllSmall}
 use Rattle.numbers.proofs.NearLaws.{near-add, near-sub, near-mul, near-neg, near-self}
-use Rattle.numbers.proofs.Largest.{Within, AllWithin, within-max, lt-says}
+use Rattle.numbers.proofs.Largest.{Within, AllWithin, within-max}
 use Rattle.numbers.proofs.DiffersLaws.{near-within}
+use Rattle.numbers.proofs.ValueOrder.{le-says}
 
 -- ---- the larger of two
 loosen : (x : Float) (X : Frac) (b : Bound) (e : ℕ) → b .off ≤ e → Near x X b → Within S e x X
@@ -83,23 +82,6 @@ small-at m [] k d a h = absurd (not-suc-le-zero h)
 small-at m (x ∷ l) zero d a h = a .0
 small-at m (x ∷ l) (suc k) d a h = small-at m l k d (a .1) (le-of-suc-le-suc h)
 
--- doubles of at most k / S each
-abbrev pub inputs : (k : ℕ) (cs : List Float) → AllSmall k cs → List Bounded
-inputs k [] a = []
-inputs k (c ∷ cs) a = input k c (a .0) ∷ inputs k cs (a .1)
-
-pub inputs-double : (k : ℕ) (cs : List Float) (a : AllSmall k cs) → map (λ c. c .double) (inputs k cs a) ≡ cs
-inputs-double k [] a = refl
-inputs-double k (c ∷ cs) a = ap (λ (l : List Float). c ∷ l) (inputs-double k cs (a .1))
-
-pub inputs-frac : (k : ℕ) (cs : List Float) (a : AllSmall k cs) → map (λ c. c .frac) (inputs k cs a) ≡ map fracOf cs
-inputs-frac k [] a = refl
-inputs-frac k (c ∷ cs) a = ap (λ (l : List Frac). fracOf c ∷ l) (inputs-frac k cs (a .1))
-
-pub inputs-bound : (k : ℕ) (cs : List Float) (a : AllSmall k cs) → map (λ c. c .bound) (inputs k cs a) ≡ replicate (length cs) (exactly k)
-inputs-bound k [] a = refl
-inputs-bound k (c ∷ cs) a = ap (λ (l : List Bound). exactly k ∷ l) (inputs-bound k cs (a .1))
-
 -- ---- rows of them, within 1 / R
 abbrev pub good : ℕ → Bound → Bool
 good R b = b .ok && leb (b .off * R) S
@@ -118,13 +100,6 @@ all-within R [] t = tt
 all-within R (a ∷ l) t = (one-within R a (and-l (good R (a .bound)) _ t), all-within R l (and-r (good R (a .bound)) _ t))
 
 -- ---- from a comparison of doubles
-or-cases : (a b : Bool) → T (a || b) → T a ⊎ T b
-or-cases true b t = inl tt
-or-cases false b t = inr t
-
-eq-says : (a c b c' : ℕ) (t : Bool) → T (eqb (a * c') (b * c) && t) → AtMost (signed false a c) (signed false b c')
-eq-says a c b c' t h = omega (arith, eqb→eq (a * c') (b * c) (and-l (eqb (a * c') (b * c)) t h))
-
 fill : (S a o n d m : ℕ) → 0 < d → AtMost (signed false a o) (signed false n d) → n * S ≤ m * d → a * S ≤ m * o
 fill S a o n d m D h k = le-of-mul-le-mul-right (simp ring (omega (arith, simp ring at (mul-le-mul-right S h), simp ring at (mul-le-mul-right o k)))) D
 
@@ -136,7 +111,7 @@ small-of-le (inf s) n d m t h = absurd t
 small-of-le (fin s a e) n d m t h = (tt, go s (fill S (a * up e) (down e) (n * up d) (down d) m (down-pos d) both h))
   where
     both : AtMost (signed false (a * up e) (down e)) (signed false (n * up d) (down d))
-    both = elim (or-cases (ltb (a * up e * down d) (n * up d * down e)) _ t) [ inl l ↦ lt-says (fin false a e) (fin false n d) tt tt .0 (unfold lt in l) | inr q ↦ eq-says (a * up e) (down e) (n * up d) (down d) _ q ]
+    both = omega (arith, le-says (a * up e * down d) (n * up d * down e) _ t)
 
     go : (s : Bool) → a * up e * S ≤ m * down e → Mag S (signed s (a * up e) (down e)) m
     go false h = omega arith

@@ -1,7 +1,7 @@
 -- How close signed fractions are: distances add along a chain and in a sum, and a product's is bounded by the factors' distances and sizes.
 -- Products are multiplied out and sorted, so that every step is linear in its monomials. Assumes nothing.
 use mathlib.Core.Path.{_≡_, ap}
-use Prim.Native.Nat.{ℕ, _+_, _-_, _*_, _/_, _≤_, _<_}
+use Prim.Native.Nat.{ℕ, _+_, _*_, _≤_, _<_}
 use native.Mathlib.Nat.{le-trans, le-of-eq, le-dest, mul-le-mul, mul-le-mul-right, le-of-mul-le-mul-right, mul-comm, mul-assoc, mul-left-comm, mul-add, add-mul}
 use native.Mathlib.Decide.{decLe}
 use native.Mathlib.Omega.{arith}

@@ -1,5 +1,6 @@
--- Horner's rule on doubles keeps near Horner's rule on fractions, for any list of coefficients. Its bound is the rule read on `bounds`, which the kernel evaluates: for numbers with bounds of
--- their own (`horner-bounded`), for constant coefficients (`horner-const`), for coefficients of one size (`horner-small`). Where z is at most 1 it is also written out in the length (`horner-near`). Assumes nothing.
+-- Horner's rule on doubles keeps near Horner's rule on fractions, for any list of coefficients. Its bound is the rule read on
+-- `bounds`, which the kernel evaluates: for numbers with bounds of their own (`horner-bounded`), for constant coefficients
+-- (`horner-const`). Where z is at most 1 it is also written out in the length (`horner-near`). Assumes nothing.
 use Prim.Native.Nat.{ℕ, suc, _+_, _*_, _/_, _^_, _≤_, _<_}
 use native.Mathlib.Nat.{le-trans, div-le-of-le-mul}
 use native.Mathlib.Omega.{arith}
@@ -13,8 +14,8 @@ use Rattle.numbers.specs.Ops.{doubles, fractions}
 use Rattle.numbers.specs.Horner.{horner}
 use Rattle.numbers.specs.Near.{Near, S, addBound, mulBound, exactly, upTo}
 use Rattle.numbers.proofs.NearLaws.{near-add, near-mul, near-self, near-weaken, rounds-by}
-use Rattle.numbers.specs.Bound.{Small, AllSmall, bounds, constBound, hornerBound}
-use Rattle.numbers.proofs.BoundLaws.{Bounded, bounded, input, inputs, inputs-double, inputs-frac, inputs-bound, near-const}
+use Rattle.numbers.specs.Bound.{Small, AllSmall, bounds, constBound}
+use Rattle.numbers.proofs.BoundLaws.{Bounded, bounded, input, near-const}
 
 -- ---- bounds by evaluation
 pub horner-bounded : (cs : List Bounded) (z : Bounded) → T (horner bounds (map (λ c. c .bound) cs) (z .bound) .ok)
@@ -31,13 +32,6 @@ horner-bounded (c ∷ d ∷ cs) z t =
 pub horner-const : (cs : List Float) (z : Float) (m : ℕ) → Small m z → T (horner bounds (map constBound cs) (exactly m) .ok)
     → Near (horner doubles cs z) (horner fractions (map fracOf cs) (fracOf z)) (horner bounds (map constBound cs) (exactly m))
 horner-const cs z m h t = simp (map-map, map-id) at (horner-bounded (map (bounded .of) cs) (input m z h) (simp map-map t))
-
--- n coefficients of at most k / S, at a z of at most m / S
-pub horner-small : (k m : ℕ) (cs : List Float) (z : Float) → AllSmall k cs → Small m z → T (hornerBound k m (length cs) .ok)
-    → Near (horner doubles cs z) (horner fractions (map fracOf cs) (fracOf z)) (hornerBound k m (length cs))
-unfolding hornerBound
-horner-small k m cs z a h t =
-    simp (inputs-double k cs a, inputs-frac k cs a, inputs-bound k cs a) at (horner-bounded (inputs k cs a) (input m z h) (rw (inputs-bound k cs a) t))
 
 -- ---- Horner's rule over n coefficients of at most C / S, at a z of at most 1: the bound is n * (2 * 2 ^ i + 1) units where all n, with their errors, stay below 2 ^ (54 + i) units
 module _ (C i : ℕ) (I : i ≤ 1000) (z : Float) (Z : Small S z) where

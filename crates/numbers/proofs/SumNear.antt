@@ -1,5 +1,6 @@
--- A sum of doubles keeps near the sum of the fractions, for any number of terms. Its bound is the sum read on `bounds`, which the kernel evaluates (`sum-bounded`). For terms of one
--- bound, from a zero of either sign, it is also written out in the length (`sum-near`): for doubles of one size (`sum-small`), and for products of two (`products-near`). Assumes nothing.
+-- A sum of doubles keeps near the sum of the fractions, for any number of terms. Its bound is the sum read on `bounds`, which
+-- the kernel evaluates (`sum-bounded`). For terms of one bound, from a zero of either sign, it is also written out in the
+-- length (`sum-near`), and so for products of two doubles of given sizes (`products-near`). Assumes nothing.
 use Prim.Native.Nat.{ℕ, zero, suc, _+_, _*_, _/_, _^_, _≤_, _<_}
 use native.Mathlib.Nat.{le-trans, lt-of-le-of-lt, mul-le-mul-right}
 use native.Mathlib.Omega.{arith}
@@ -58,13 +59,6 @@ module _ (b : Bound) (i : ℕ) (I : i ≤ 1000) (f : ℕ → Float) (F : ℕ →
   sum-near n s z room h =
       near-weaken _ _ _ (n * b .most) (n * (b .off + 2 ^ i)) (omega arith) (omega arith)
       (sum-on 0 n s (fracOf s) (omega arith) h (near-weaken s (fracOf s) (exactly 0) _ _ (omega arith) (omega arith) (near-self s 0 (z .0) (z .1))))
-
--- n doubles of at most M / S
-pub sum-small : (M i : ℕ) → i ≤ 1000 → (f : ℕ → Float) (n : ℕ) (s : Float) → Small 0 s → n * (M + 2 ^ i) < 2 ^ (54 + i) → ((j : ℕ) → j < n → Small M (f j))
-    → Near (sumFrom doubles s f n) (sumFrom fractions (fracOf s) (λ j. fracOf (f j)) n) (upTo (n * M) (n * 2 ^ i))
-sum-small M i I f n s z room h =
-    near-weaken _ _ _ (n * M) (n * 2 ^ i) (omega arith) (omega arith)
-    (sum-near (exactly M) i I f (λ j. fracOf (f j)) n s z (omega arith) (λ j l. near-self (f j) M (h j l .0) (h j l .1)))
 
 -- ---- n products of two doubles of at most A / S and B / S
 pub product-near : (A B i : ℕ) → i ≤ 1000 → (x y : Float) → Small A x → Small B y → productBound A B .most + productBound A B .off + 2 ^ i < 2 ^ (54 + i)

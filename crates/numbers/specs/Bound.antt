@@ -1,14 +1,12 @@
--- A formula over `Ops` read on bounds: it computes its own bound. With the bounds of Horner's rule and of a product, and what it says that a double is small: the words of the facts
--- about sums and Horner forms of any length. Document 01, "Agreement". Definitions only.
+-- A formula over `Ops` read on bounds: it computes its own bound. With the bound of a product, and what it says that a double
+-- is small: the words of the facts about sums and Horner forms of any length. Document 01, "Agreement". Definitions only.
 use Prim.Native.Nat.{ℕ, _+_, _*_, _/_, max}
 use mathlib.Core.Bool.{false, _&&_}
 use mathlib.Core.List.{List, [], _∷_}
-use lib.ListN.{replicate}
 use lib.Dec.{T}
 use lib.Ieee.{Float, nan, inf, fin, up, down}
 use lib.Ieee.Scale.{finite}
 use Rattle.numbers.specs.Ops.{Ops}
-use Rattle.numbers.specs.Horner.{horner}
 use Rattle.numbers.specs.Close.{Mag}
 use Rattle.numbers.specs.Near.{Bound, S, valueOf, addBound, mulBound, exactly}
 
@@ -26,11 +24,6 @@ constBound (fin s m e) = exactly (m * up e * S / down e + 1)
 -- a formula's bound
 abbrev pub bounds : Ops Bound
 bounds = record { add = addBound; sub = addBound; mul = mulBound; neg = λ b. b; max = maxBound; of = constBound }
-
--- n coefficients of at most k / S, at a z of at most m / S
-unfoldable pub hornerBound : ℕ → ℕ → ℕ → Bound
-unfolding horner
-hornerBound k m n = horner bounds (replicate n (exactly k)) (exactly m)
 
 -- a product of two doubles of at most A / S and B / S
 abbrev pub productBound : ℕ → ℕ → Bound

@@ -1,5 +1,5 @@
 -- Fractions, one whole number over another, with exact operations, and a double as the fraction that it is. Document 01, "The words of demand 3". Definitions only.
-use Prim.Native.Nat.{ℕ, zero, suc, _*_}
+use Prim.Native.Nat.{ℕ, _*_}
 use mathlib.Core.Bool.{Bool, true, false, cond}
 use lib.IntN.{ℤ, pos, negsuc, negℤ, natAbs, _+ℤ_, _*ℤ_}
 use lib.Ieee.{Float, nan, inf, fin, up, down}

@@ -8,14 +8,23 @@ use native.Mathlib.Nat.{zero-mul, zero-add, suc-add, suc-le-suc-iff, not-suc-le-
 use native.Mathlib.Decide.{decLt, ℕ-discrete}
 use lib.ListN.{length, getD, set, take, length-append, length-set, List·getD-append}
 use lib.Seq.{length-take-le, getD-take, getD-append-add, getD-set-same, getD-set-other, set-append-left, take-set-lt}
-use lib.Ieee.{Float, nan, binary64}
+use lib.Ieee.{Float, nan, binary64, add, sub, mul}
 use mir.Val.{Val}
 use denote.Array.{Array, each}
 use denote.Floats.{FloatOf}
 use denote.Laws.{Is}
 use denote.Shadow.{shadow}
 use Rattle.eigen.specs.Eigen.{turnPair, column}
-use Rattle.spans.specs.Flat.{flatTo, flat, at, put, turnEntries}
+use Rattle.spans.specs.Flat.{flatTo, flat, at}
+
+-- the entry ij set, and the entries ij and kl turned
+abbrev put : List (List Float) → ℕ → ℕ → Float → List (List Float)
+put m i j x = set m i (set (getD m i []) j x)
+
+abbrev turnEntries : Float → Float → List (List Float) → ℕ → ℕ → ℕ → ℕ → List (List Float)
+turnEntries c s m i j k l =
+    put (put m i j (sub binary64 (mul binary64 c (at m i j)) (mul binary64 s (at m k l)))) k l
+    (add binary64 (mul binary64 s (at m i j)) (mul binary64 c (at m k l)))
 
 -- w rows of w entries
 pub record Grid (w : ℕ) (m : List (List Float)) : Type 0 where
@@ -90,9 +99,6 @@ grid-put w m g i j x = record { rows = length-set m i (set (getD m i []) j x) �
 
 -- a turn of two entries is a turn on the flat list
 module _ (n w : ℕ) (narrow : n ≤ w) (m : List (List Float)) (g : Grid w m) (i j k l : ℕ) (hi : i < n) (hj : j < n) (hk : k < n) (hl : l < n) (c s : Float) where
-  pub grid-turn : Grid w (turnEntries c s m i j k l)
-  grid-turn = grid-put w _ (grid-put w m g i j _) k l _
-
   pub flat-turn : flat n (turnEntries c s m i j k l) ≡ turnPair c s (flat n m) (i * n + j) (k * n + l)
   flat-turn =
       flat-put n w narrow (put m i j _) (grid-put w m g i j _) n k l _ narrow hk hl
