@@ -6,7 +6,7 @@ ghost use Prim.Native.Nat.{ℕ, _+_, _*_, _≤_, _<_};
 ghost use lib.ListN.{length};
 ghost use lib.Ieee.{eq};
 ghost use Rattle.numbers.specs.Double.{zero64};
-ghost use Rattle.least_squares.specs.Filled.{Filled};
+ghost use Rattle.least_squares.specs.Filled.{FilledList};
 
 // 1 for what is no zero.
 fn counts(v: f64) -> usize
@@ -15,12 +15,13 @@ fn counts(v: f64) -> usize
     if v == 0.0 { 0 } else { 1 }
 }
 
-// Of k doubles, each `step` places behind the last and the first at o, the numbers of those that are no zeros, to the first places of the list; how many there are. What stands in
-// the list at entry is open. A number is written behind those listed in any case, without a branch.
+// Of k doubles, each `step` places behind the last and the first at o, writes the numbers of those that are no zeros to the
+// first places of the list. Returns how many there are. The list's contents at entry do not affect the result. A number is
+// written behind those listed in any case, without a branch, so that one place behind them is open.
 pub fn filled(s: &[f64], o: usize, step: usize, k: usize, list: &mut [usize]) -> usize
     requires { ⌜ ((c : ℕ) → c < k → c * step + o < length (now s)) ⌝ }
     requires { ⌜ k ≤ length (now list) ⌝ }
-    ensures { λ m. ⌜ Filled (now (s .entry)) o step k (now (list .exit)) m ⌝ }
+    ensures { λ m. ⌜ FilledList (now (s .entry)) o step k (now (list .entry)) (now (list .exit)) m ⌝ }
 {
     let mut m = 0;
     for c in 0..k {

@@ -11,7 +11,7 @@ row-entries-requires c κs =
     let listed = c .before .before .before in
     let o = listed .before .before .before .before in
     let z = listed .filled .kept .1 .1 .1 .1 .0 in
-    (o .pre .0, (o .pre .1 .0, (omega arith, (o .pre .1 .1 .1, listed .filled .ensures))))
+    (o .pre .0, (o .pre .1 .0, (omega arith, (o .pre .1 .1 .1, listed .filled .ensures .first))))
 
 same-length : tie.Need-same-length
 same-length c = c .before .before .before .before .filled .kept .1 .1 .1 .1 .0

@@ -62,7 +62,7 @@ columns-times-requires c κs =
           omega arith,
           (
             finite-front (g .s .now) (l .loop .s) (g .rows * g .n) (g .rows * g .n) at (at + g .n) (omega arith) (omega arith) e (o .pre .1 .1 .1),
-            rows-kept (g .s .now) (l .loop .s) (g .rows) (g .n) at (at + g .n) (omega arith) e (g .i) _ _ (o .pre .0) (made .filled .ensures),
+            rows-kept (g .s .now) (l .loop .s) (g .rows) (g .n) at (at + g .n) (omega arith) e (g .i) _ _ (o .pre .0) (made .filled .ensures .first),
           ),
         ),
       ),

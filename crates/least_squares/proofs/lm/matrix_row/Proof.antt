@@ -35,7 +35,7 @@ add-k-end : tie.Need-add-k-end Inv-loop μ-loop
 add-k-end c = omega arith
 
 loop-holds : tie.Need-loop-holds Inv-loop μ-loop
-loop-holds c = (omega arith, refl, refl, kept-refl _ _ _, (λ j l. absurd (not-suc-le-zero l)), c .before .before .filled .ensures, let z = c .before .before .filled .kept .1 .1 .1 .1 .0 in let f = c .before .before .before .before .before .before .before .pre .0 .2 in omega arith)
+loop-holds c = (omega arith, refl, refl, kept-refl _ _ _, (λ j l. absurd (not-suc-le-zero l)), c .before .before .filled .ensures .first, let z = c .before .before .filled .kept .1 .1 .1 .1 .0 in let f = c .before .before .before .before .before .before .before .pre .0 .2 in omega arith)
 
 -- row k of the slopes ends where row i does, at the latest, and the scratch is as long as at entry
 fits : (c : tie.In-loop Inv-loop μ-loop)
