@@ -18,12 +18,12 @@ use Rattle.judging.proofs.CountLaws.{residual-length}
 use Rattle.records.specs.Record.{bodyAt, relAt}
 use Rattle.scene.specs.Scene.{sceneIn}
 use Rattle.least_squares.specs.Lm.{listOf, tableOf, stepOf, slopeOf, ahead, behind, slope, jacobian}
-use Rattle.least_squares.specs.Memory.{part}
+use Rattle.least_squares.specs.Memory.{part, Kept}
 use Rattle.scene.specs.Solve.{Scene, names, named, moves, layoutFrom, unknownsIn, three, movedPose, rowsAt, allRows, halfSize}
 use Rattle.scene.specs.Scene.{sceneOf, Laid, poseDoubles, posesDoubles, poseIn, posesIn, Put}
 use Rattle.body_freedom.specs.Dof.{relsOf, withBody, bodyRows, zeros, columnsTimes, squareOf}
 use Rattle.scene.specs.declared.scene.Scene.{Scene as SceneStruct}
-use Rattle.least_squares.proofs.MemoryLaws.{part-length, part-at}
+use Rattle.least_squares.proofs.MemoryLaws.{part-length, part-at, kept-refl, kept-trans, kept-wider}
 use Rattle.least_squares.proofs.TableLaws.{length-listOf, getD-listOf, one-more, sum-same, in-rows, length-tableOf, getD-tableOf, table-ext}
 use Rattle.scene.proofs.RowCountLaws.{rows-alike}
 use Rattle.scene.proofs.SceneLaws.{Growing, growing-step, listOf-next, drop-whole, length-bodies, bodies-next, next-layout, poses-there, pose-put}
@@ -275,14 +275,14 @@ module _ (sheet : List ℕ) (c : SceneStruct) (i : ℕ) (poses : List (Pose Floa
 
 -- ---- the body's poses a step ahead and behind
 
--- the poses of the first e unknowns stand
+-- the poses of the first e unknowns stand, and nothing from place 144 on has changed
 pub record Moving (b : Body) (s t : List Float) (e : ℕ) : Type 0 where
-  pub size : length t ≡ length s
+  pub kept : Kept s t 0 144
   pub ahead : (d : ℕ) → d < e → poseIn t (12 * d) ≡ shifted b (set (zeros 6) d (add binary64 zero64 (stepOf zero64)))
   pub behind : (d : ℕ) → d < e → poseIn t (72 + 12 * d) ≡ shifted b (set (zeros 6) d (sub binary64 zero64 (stepOf zero64)))
 
 pub moving-start : (b : Body) (s : List Float) → Moving b s s 0
-moving-start b s = record { size = refl; ahead = λ d h. absurd (not-suc-le-zero h); behind = λ d h. absurd (not-suc-le-zero h) }
+moving-start b s = record { kept = kept-refl s 0 144; ahead = λ d h. absurd (not-suc-le-zero h); behind = λ d h. absurd (not-suc-le-zero h) }
 
 -- the poses of one more unknown
 pub moving-step : (b : Body) (s t u v : List Float) (e : ℕ) (h : Float) → e < 6 → h ≡ stepOf zero64 → Moving b s t e
@@ -291,7 +291,10 @@ pub moving-step : (b : Body) (s t u v : List Float) (e : ℕ) (h : Float) → e 
     → Moving b s v (e + 1)
 moving-step b s t u v e h l f g y z =
     record {
-      size = z .kept .size ∙ y .kept .size ∙ g .size;
+      kept =
+          kept-trans s u v 0 144
+          (kept-trans s t u 0 144 (g .kept) (kept-wider t u (12 * e) (12 * e + 12) 0 144 (omega arith) (omega arith) (y .kept)))
+          (kept-wider u v (72 + 12 * e) (72 + 12 * e + 12) 0 144 (omega arith) (omega arith) (z .kept));
       ahead =
           one-more (λ d. poseIn v (12 * d) ≡ shifted b (set (zeros 6) d (add binary64 zero64 (stepOf zero64)))) e
           (λ d a. slot-kept u v (72 + 12 * e) (12 * d) _ z (λ m. omega arith) (λ m. omega arith) ∙ slot-kept t u (12 * e) (12 * d) _ y (λ m. omega arith) (λ m. omega arith) ∙ g .ahead d a)
@@ -303,7 +306,7 @@ moving-step b s t u v e h l f g y z =
     }
 
 pub moving-end : (b : Body) (s t : List Float) (e : ℕ) → e ≡ 6 → Moving b s t e → MovedPoses b s t
-moving-end b s t e h g = record { size = g .size; ahead = λ d l. g .ahead d (rw h l); behind = λ d l. g .behind d (rw h l) }
+moving-end b s t e h g = record { kept = g .kept; ahead = λ d l. g .ahead d (rw h l); behind = λ d l. g .behind d (rw h l) }
 
 -- ---- the slopes are those of the body's rows as a function of its six unknowns
 

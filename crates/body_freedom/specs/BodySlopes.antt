@@ -12,7 +12,7 @@ use Rattle.spans.specs.Flat.{flat}
 use Rattle.relations.specs.Geometry.{Pose}
 use Rattle.relations.specs.Model.{Body, Rel, poseOfFrame}
 use Rattle.least_squares.specs.Lm.{listOf, stepOf, jacobian}
-use Rattle.least_squares.specs.Memory.{part}
+use Rattle.least_squares.specs.Memory.{part, Kept}
 use Rattle.scene.specs.Solve.{Scene, names, three, movedPose, rowsAt, allRows, halfSize}
 use Rattle.scene.specs.Scene.{poseIn, posesIn}
 use Rattle.slopes.specs.Moved.{movedSlope, Block}
@@ -45,9 +45,10 @@ shifted b x =
       z = div binary64 (getD x 5 nan) (halfSize (b .size));
     })
 
--- a body's poses with each of its six unknowns a step from 0 ahead, twelve doubles each, and behind these a step behind
+-- a body's poses with each of its six unknowns a step from 0 ahead, twelve doubles each, and behind these a step behind:
+-- 144 doubles, and nothing behind them has changed
 pub record MovedPoses (b : Body) (s t : List Float) : Type 0 where
-  pub size : length t ≡ length s
+  pub kept : Kept s t 0 144
   pub ahead : (e : ℕ) → e < 6 → poseIn t (12 * e) ≡ shifted b (set (zeros 6) e (add binary64 zero64 (stepOf zero64)))
   pub behind : (e : ℕ) → e < 6 → poseIn t (72 + 12 * e) ≡ shifted b (set (zeros 6) e (sub binary64 zero64 (stepOf zero64)))
 

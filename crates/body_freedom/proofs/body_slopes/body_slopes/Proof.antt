@@ -33,7 +33,7 @@ slopes-on-requires c κs =
     let moved = c .before .before .before .before in
     let o = moved .before .before .before .before .before .before in
     let apart = o .pre .1 .1 .0 in
-    let z = moved .moved-poses .ensures .size in
+    let z = moved .moved-poses .ensures .kept .size in
     (o .pre .0, record { body = o .pre .1 .0; poses = apart .poses; twelve = omega arith; wide = omega arith; below = omega (arith, o .pre .1 .1 .1) })
 
 same-length : tie.Need-same-length

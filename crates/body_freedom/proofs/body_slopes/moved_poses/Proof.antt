@@ -1,5 +1,5 @@
--- `body_freedom::body_slopes::moved_poses` meets its contract. The invariant: the poses of the first e unknowns stand, ahead and behind. The measure is the unknowns to come. Assumes
--- nothing.
+-- `body_freedom::body_slopes::moved_poses` writes the twelve poses. The invariant: those of the first e unknowns stand, ahead
+-- and behind, and nothing behind the 144 doubles has changed. The measure is the unknowns to come. Assumes nothing.
 use Prim.Native.Nat.{_-_, _≤_}
 use native.Mathlib.Omega.{arith}
 use Rattle.relations.specs.Model.{bodyOf}
@@ -23,7 +23,7 @@ mul-put-unknown : tie.Need-mul-put-unknown Inv-loop μ-loop
 mul-put-unknown c = omega arith
 
 put-unknown-requires : tie.Need-put-unknown-requires Inv-loop μ-loop
-put-unknown-requires c κs = let z = c .before .before .loop .inv .1 .size in (omega arith, omega arith)
+put-unknown-requires c κs = let z = c .before .before .loop .inv .1 .kept .size in (omega arith, omega arith)
 
 mul-put-unknown-2 : tie.Need-mul-put-unknown-2 Inv-loop μ-loop
 mul-put-unknown-2 c = omega arith
@@ -33,7 +33,7 @@ add-put-unknown c = omega arith
 
 put-unknown-requires-2 : tie.Need-put-unknown-requires-2 Inv-loop μ-loop
 put-unknown-requires-2 c κs =
-    let z = c .before .before .before .before .before .before .loop .inv .1 .size in
+    let z = c .before .before .before .before .before .before .loop .inv .1 .kept .size in
     let y = c .before .before .before .put-unknown .ensures .kept .size in
     (omega arith, omega arith)
 
@@ -50,7 +50,7 @@ loop-again c =
     (omega arith, moving-step _ _ (l .moved) _ _ (l .e) _ (omega arith) (ahead .before .before .before .before .step-of .ensures) (l .inv .1) (ahead .put-unknown .ensures) (c .before .before .put-unknown2 .ensures))
 
 same-length : tie.Need-same-length Inv-loop μ-loop
-same-length c = c .before .loop .inv .1 .size
+same-length c = c .before .loop .inv .1 .kept .size
 
 returns : tie.Need-returns Inv-loop μ-loop
 returns c = moving-end _ _ _ (c .before .loop .e) (omega arith) (c .before .loop .inv .1)

@@ -39,7 +39,7 @@ named-columns-requires c κs =
     let g = o .args in
     let h = o .pre .1 in
     let apart = h .0 in
-    let z = moved .moved-poses .ensures .size in (
+    let z = moved .moved-poses .ensures .kept .size in (
       o .pre .0,
       (
         record { body = h .1 .0 .0; poses = apart .poses; twelve = omega arith; wide = omega arith; below = omega arith },
