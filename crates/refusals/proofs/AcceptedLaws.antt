@@ -1,5 +1,5 @@
--- What a call that begins or goes on and is not refused says of the sheet, of what is chosen, of the portion and of the lent lengths: each of the tests, in the parts
--- that `rounds-parts` splits them into, gave 0. Assumes nothing.
+-- What a call that begins or goes on and is not refused says of the sheet, of what is chosen and of the lent lengths:
+-- each of the tests, in the parts that `rounds-parts` splits them into, gave 0. Assumes nothing.
 use mathlib.Core.Path.{_≡_, refl, sym, _∙_}
 use mathlib.Core.Bool.{Bool, true, false, _&&_, cond}
 use mathlib.Core.List.{List}
@@ -20,11 +20,10 @@ passes : (t : Bool) (n : ℕ) → _≡_ {A = ℕ} (cond t 0 (suc n)) 0 → t ≡
 passes true n h = refl
 passes false n h = absurd (let z : _≡_ {A = ℕ} (suc n) 0 = h in omega arith)
 
--- the sheet passes tests 1 to 7 and 14, what is chosen is in range, the portion is at most 1000 rounds, and what is lent is long enough
-pub record AcceptedByRounds (s : List ℕ) (p : Parameters) (portion state scratch poses frames errors : ℕ) : Type 0 where
+-- the sheet passes tests 1 to 7 and 14, what is chosen is in range, and what is lent is long enough
+pub record AcceptedByRounds (s : List ℕ) (p : Parameters) (state scratch poses frames errors : ℕ) : Type 0 where
   pub sheet : sheetFault s ≡ 0
   pub range : inRange p ≡ true
-  pub portion-small : portion ≤ 1000
   pub state-long : stateLength s ≤ state
   pub scratch-long : solveScratch s ≤ scratch
   pub poses-long : 12 * bodiesOf s ≤ poses
@@ -32,14 +31,14 @@ pub record AcceptedByRounds (s : List ℕ) (p : Parameters) (portion state scrat
   pub errors-long : relationsOf s ≤ errors
 
 -- and the counts are the sheet's
-pub record AcceptedOn (s : List ℕ) (p : Parameters) (portion n R state scratch poses frames errors : ℕ) : Type 0 where
-  pub accepted : AcceptedByRounds s p portion state scratch poses frames errors
+pub record AcceptedOn (s : List ℕ) (p : Parameters) (n R state scratch poses frames errors : ℕ) : Type 0 where
+  pub accepted : AcceptedByRounds s p state scratch poses frames errors
   pub unknowns-are : n ≡ unknowns (sceneAt s)
   pub rows-are : R ≡ rowsIn (sceneAt s)
 
 module _ (s : List ℕ) (p : Parameters) (drag portion : ℕ) where
   rounds-accepted : (counted : Bool) (state scratch poses frames errors : ℕ) → roundsFault s p drag portion counted state scratch poses frames errors ≡ 0
-      → AcceptedByRounds s p portion state scratch poses frames errors × (counted ≡ true)
+      → AcceptedByRounds s p state scratch poses frames errors × (counted ≡ true)
   unfolding callFault portionFault lentFault solveLong
   rounds-accepted counted state scratch poses frames errors h =
       let P = leb (12 * bodiesOf s) poses in
@@ -57,7 +56,6 @@ module _ (s : List ℕ) (p : Parameters) (drag portion : ℕ) where
         record {
           sheet = a .0;
           range = passes (inRange p) 14 (c .1);
-          portion-small = leb-true portion 1000 (and-right (leb 1 portion) _ (and-left (portionFits portion) counted t));
           state-long = leb-true (stateLength s) state (passes (leb (stateLength s) state) 9 (q .0));
           scratch-long = leb-true (solveScratch s) scratch (passes (leb (solveScratch s) scratch) 8 (l .1));
           poses-long = leb-true (12 * bodiesOf s) poses (and-left P (F && E) v);
@@ -68,11 +66,11 @@ module _ (s : List ℕ) (p : Parameters) (drag portion : ℕ) where
       )
 
   pub begin-accepted : (state scratch poses frames errors : ℕ) → beginFault s p drag portion state scratch poses frames errors ≡ 0
-      → AcceptedByRounds s p portion state scratch poses frames errors
+      → AcceptedByRounds s p state scratch poses frames errors
   begin-accepted state scratch poses frames errors h = rounds-accepted true state scratch poses frames errors h .0
 
   pub on-accepted : (n R state scratch poses frames errors : ℕ) → onFault s p drag portion n R state scratch poses frames errors ≡ 0
-      → AcceptedOn s p portion n R state scratch poses frames errors
+      → AcceptedOn s p n R state scratch poses frames errors
   on-accepted n R state scratch poses frames errors h =
       let a = rounds-accepted (countsFit s n R) state scratch poses frames errors h in
       record {

@@ -42,8 +42,8 @@ Made s c = SceneMade s 24 (bodiesOf s) (24 + 136 * bodiesOf s) (relationsOf s) c
 
 -- ---- what the calls below ask for
 
-module _ (s : List ℕ) (c : SceneStruct) (made : Made s c) (p : Parameters) (portion : ℕ) (state scratch poses frames errors : List Float)
-    (a : AcceptedByRounds s p portion (length state) (length scratch) (length poses) (length frames) (length errors)) where
+module _ (s : List ℕ) (c : SceneStruct) (made : Made s c) (p : Parameters) (state scratch poses frames errors : List Float)
+    (a : AcceptedByRounds s p (length state) (length scratch) (length poses) (length frames) (length errors)) where
   pub asked : Laid s c × ((inRange p ≡ true) × ((need c ≤ length scratch) × Room c state poses frames errors))
   asked =
       let l = few s c made (a .sheet) in
@@ -76,10 +76,10 @@ module _ (s : List ℕ) (c : SceneStruct) (made : Made s c) (p : Parameters) (po
 -- ---- what is left
 
 module _ (s : List ℕ) (p : Parameters) (c : SceneStruct) (made : Made s c) (state state' scratch scratch' poses poses' frames frames' errors errors' : List Float) (done done' run run' flag flag' : ℕ) (e : ReachedStruct) where
-  left-by : (a st : Running) (portion : ℕ) → AcceptedByRounds s p portion (length state) (length scratch) (length poses) (length frames) (length errors)
+  left-by : (a st : Running) → AcceptedByRounds s p (length state) (length scratch) (length poses) (length frames) (length errors)
       → Left (sceneOf s c) p c a state state' poses poses' frames frames' errors errors' e → a ≡ st → Known st → length scratch' ≡ length scratch → done' ≡ e .done → run' ≡ e .run
       → flag' ≡ flagNumber (e .converged) → LeftBy s p st 0 done done' run run' state state' scratch scratch' poses poses' frames frames' errors errors' flag flag'
-  left-by a st portion acc l h known size de re fe =
+  left-by a st acc l h known size de re fe =
       let w : Left (sceneAt s) p c st state state' poses poses' frames frames' errors errors' e
       = subst (λ (sc : Scene). Left sc p c st state state' poses poses' frames frames' errors errors' e) (scene-is s c made) (left-as (sceneOf s c) p c a st state state' poses poses' frames frames' errors errors' e l h) in
       let n = unknown-count s c made in
@@ -139,7 +139,7 @@ module _ (s : List ℕ) (p : Parameters) (drag portion : ℕ) (state scratch pos
           unknowns-are = ne ∙ unknown-count s c made;
           rows-are = re ∙ row-count s c made;
           left =
-              left-by s p c made state state' scratch scratch' poses poses' frames frames' errors errors' done done' run run' flag flag' e _ _ portion a l h
+              left-by s p c made state state' scratch scratch' poses poses' frames frames' errors errors' done done' run run' flag flag' e _ _ a l h
               (known-runs (sceneAt s) p (dragOf drag) portion .of-begin)
               size
               de
@@ -186,7 +186,7 @@ module _ (s : List ℕ) (p : Parameters) (drag portion n rows : ℕ) (state scra
         record {
           number = sym z ∙ fe;
           left =
-              left-by s p c made state state' scratch scratch' poses poses' frames frames' errors errors' done done' run run' flag flag' e _ _ portion a l h
+              left-by s p c made state state' scratch scratch' poses poses' frames frames' errors errors' done done' run run' flag flag' e _ _ a l h
               (known-runs (sceneAt s) p (dragOf drag) portion .of-on (stateOf s done run state) (run-known run))
               size
               de

@@ -21,7 +21,7 @@ entry c = c .before .before .before .before .before .before .before
 -- what a call that passes says of what is lent
 accepted : (c : tie.Then1)
     → let g = entry (c .before) .args in
-    AcceptedByRounds (g .sheet .now) (chosen (g .tolerance) (g .rounds) (g .limit) (g .weight)) (g .portion) (length (g .state .now)) (length (g .scratch .now)) (length (g .poses .now)) (length (g .frames .now)) (length (g .errors .now))
+    AcceptedByRounds (g .sheet .now) (chosen (g .tolerance) (g .rounds) (g .limit) (g .weight)) (length (g .state .now)) (length (g .scratch .now)) (length (g .poses .now)) (length (g .frames .now)) (length (g .errors .now))
 accepted c =
     let tested = c .before in
     let g = entry tested .args in
@@ -37,20 +37,20 @@ solve-begin-requires : tie.Need-solve-begin-requires
 solve-begin-requires c κs =
     let read = c .before .before .before .before .before .before in
     let g = entry (read .before .before) .args in
-    asked (g .sheet .now) _ (read .scene-in .ensures) (chosen (g .tolerance) (g .rounds) (g .limit) (g .weight)) (g .portion) (g .state .now) (g .scratch .now) (g .poses .now) (g .frames .now) (g .errors .now) (accepted (read .before))
+    asked (g .sheet .now) _ (read .scene-in .ensures) (chosen (g .tolerance) (g .rounds) (g .limit) (g .weight)) (g .state .now) (g .scratch .now) (g .poses .now) (g .frames .now) (g .errors .now) (accepted (read .before))
 
 cast-unknowns : tie.Need-cast-unknowns
 cast-unknowns c =
     let read = c .before .before .before .before .before .before .before .before .before .before .before .before .before .before .before .before .before .before in
     let g = entry (read .before .before) .args in
-    let n = counts-fit (g .sheet .now) _ (read .scene-in .ensures) (chosen (g .tolerance) (g .rounds) (g .limit) (g .weight)) (g .portion) (g .state .now) (g .scratch .now) (g .poses .now) (g .frames .now) (g .errors .now) (accepted (read .before)) in
+    let n = counts-fit (g .sheet .now) _ (read .scene-in .ensures) (chosen (g .tolerance) (g .rounds) (g .limit) (g .weight)) (g .state .now) (g .scratch .now) (g .poses .now) (g .frames .now) (g .errors .now) (accepted (read .before)) in
     omega (arith, n .0, n .1)
 
 cast-rows : tie.Need-cast-rows
 cast-rows c =
     let read = c .before .before .before .before .before .before .before .before .before .before .before .before .before .before .before .before .before .before .before in
     let g = entry (read .before .before) .args in
-    let n = counts-fit (g .sheet .now) _ (read .scene-in .ensures) (chosen (g .tolerance) (g .rounds) (g .limit) (g .weight)) (g .portion) (g .state .now) (g .scratch .now) (g .poses .now) (g .frames .now) (g .errors .now) (accepted (read .before)) in
+    let n = counts-fit (g .sheet .now) _ (read .scene-in .ensures) (chosen (g .tolerance) (g .rounds) (g .limit) (g .weight)) (g .state .now) (g .scratch .now) (g .poses .now) (g .frames .now) (g .errors .now) (accepted (read .before)) in
     omega (arith, n .0, n .1)
 
 flag-requires : tie.Need-flag-requires

@@ -20,7 +20,7 @@ entry c = c .before .before .before .before .before .before .before
 -- what a call that passes says of what is lent
 accepted : (c : tie.Then1)
     → let g = entry (c .before) .args in
-    AcceptedByRounds (g .sheet .now) (chosen (g .tolerance) (g .rounds) (g .limit) (g .weight)) (g .portion) (length (g .state .now)) (length (g .scratch .now)) (length (g .poses .now)) (length (g .frames .now)) (length (g .errors .now))
+    AcceptedByRounds (g .sheet .now) (chosen (g .tolerance) (g .rounds) (g .limit) (g .weight)) (length (g .state .now)) (length (g .scratch .now)) (length (g .poses .now)) (length (g .frames .now)) (length (g .errors .now))
 accepted c =
     let tested = c .before in
     let g = entry tested .args in
@@ -36,7 +36,7 @@ solve-on-requires : tie.Need-solve-on-requires
 solve-on-requires c κs =
     let read = c .before .before .before .before .before .before .before .before in
     let g = entry (read .before .before) .args in
-    asked (g .sheet .now) _ (read .scene-in .ensures) (chosen (g .tolerance) (g .rounds) (g .limit) (g .weight)) (g .portion) (g .state .now) (g .scratch .now) (g .poses .now) (g .frames .now) (g .errors .now) (accepted (read .before))
+    asked (g .sheet .now) _ (read .scene-in .ensures) (chosen (g .tolerance) (g .rounds) (g .limit) (g .weight)) (g .state .now) (g .scratch .now) (g .poses .now) (g .frames .now) (g .errors .now) (accepted (read .before))
 
 flag-requires : tie.Need-flag-requires
 flag-requires c κs = search needs
