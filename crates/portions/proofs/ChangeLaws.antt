@@ -1,19 +1,21 @@
 -- What a call's own set does to the state that it goes on with. A run that has ended is no first run any more, so where the first run still goes on none has ended and
--- no row limit was read; a retry that goes on reads none either. Assumes nothing.
-use Prim.Native.Nat.{ℕ, zero, suc}
+-- no row limit was read; none is read either where it has converged, in a retry that goes on, and where nothing moves. Assumes nothing.
+use Prim.Native.Nat.{ℕ, zero, suc, _+_, _-_, _<_}
 use native.Mathlib.Omega.{arith}
 use mathlib.Core.Path.{_≡_, refl, sym, ap, _∙_}
-use mathlib.Core.Bool.{Bool, true, false, _||_, cond, true≢false}
+use mathlib.Core.Bool.{Bool, true, false, _||_, cond, true≢false, or-true}
 use mathlib.Core.List.{List}
+use mathlib.Core.Option.{Option}
 use lib.Dec.{eqb, leb, ltb}
 use lib.Ieee.{Float}
+use borrow.Author.Tests.{eqb-true}
 use Rattle.least_squares.specs.Lm.{listOf}
 use Rattle.scene.specs.Solve.{Scene, Parameters, unknowns, rowsOf, startAt, slightTurn}
 use Rattle.closeness.proofs.HowCloselyLaws.{picked}
-use Rattle.portions.specs.Portions.{Running, isRunning, rowCount, within, noRound, endRetry, beginRetry, endRun, judged, judge, oneMore, go, start, inverseWeights, on}
+use Rattle.portions.specs.Portions.{Running, isRunning, finished, rowCount, afterRound, within, noRound, endRetry, beginRetry, endRun, judged, judge, oneMore, go, start, inverseWeights, on}
 use Rattle.portions.specs.Laws.{JudgesAgain, CarriesOver, RetryBegins, withLimit, LimitAtTheBegin, NoneOverTheLimit}
-use Rattle.portions.proofs.PortionLaws.{or-right, by-run, retry-begun, run-ended, ended-retry, judged-ends, settled}
-use Rattle.portions.proofs.FinishLaws.{retry-follows, retry-ends}
+use Rattle.portions.proofs.PortionLaws.{or-right, retry-begun, run-ended, ended-retry, judged-ends, settled, go-stays, go-more, go-add}
+use Rattle.portions.proofs.FinishLaws.{first-ends, retry-follows}
 
 -- ---- the state is judged again, or carried over
 
@@ -104,36 +106,104 @@ module _ (s : Scene) (p : Parameters) (limit : ℕ) where
       let next = go-first winv k (oneMore s p winv st) in
       both-picked Same (isRunning (st .run)) _ _ _ _ (λ e h. ap (go s other winv k) (more-first winv st (go-back s p winv k (oneMore s p winv st) h)) ∙ next h) (λ e h. refl)
 
-  -- the retry
-  end-second : (c : Bool) (st : Running) → st .run ≡ 2 → endRun s other c st ≡ endRun s p c st
-  end-second c st e = retry-ends s other c st e ∙ sym (retry-ends s p c st e)
+  -- no retry is to begin: the first run has ended, or nothing moves
+  abbrev NoRetry : Running → Type 0
+  NoRetry st = st .run ≡ 1 → eqb (unknowns s) 0 ≡ true
 
-  judged-second : (stop : Bool) (st : Running) → st .run ≡ 2 → judged s other stop st ≡ judged s p stop st
+  end-same : (c : Bool) (st : Running) → NoRetry st → endRun s other c st ≡ endRun s p c st
+  unfolding endRun
+  end-same c st n =
+      both-picked (λ (z z' : Running). z ≡ z') (eqb (st .run) 1) _ _ _ _
+      (λ e. rw (ap (λ (b : Bool). c || b) (n (eqb-true (st .run) 1 e)) ∙ or-true c))
+      (λ e. refl)
+
+  judged-same : (stop : Bool) (st : Running) → NoRetry st → judged s other stop st ≡ judged s p stop st
   unfolding judged
-  judged-second stop st e = ap (λ (z : Running). cond (within s p (st .r) || stop) z st) (end-second (within s p (st .r)) st e)
+  judged-same stop st n = ap (λ (z : Running). cond (within s p (st .r) || stop) z st) (end-same (within s p (st .r)) st n)
 
-  judge-second : (st : Running) → st .run ≡ 2 → judge s other st ≡ judge s p st
+  judge-same : (st : Running) → NoRetry st → judge s other st ≡ judge s p st
   unfolding judge
-  judge-second st e = ap (λ (z : Running). cond (isRunning (st .run)) z st) (judged-second (leb (p .rounds) (st .done) || ltb 800 (rowCount s)) st e)
+  judge-same st n = ap (λ (z : Running). cond (isRunning (st .run)) z st) (judged-same (leb (p .rounds) (st .done) || ltb 800 (rowCount s)) st n)
 
-  more-second : (winv : List Float) (st : Running) → st .run ≡ 2 → oneMore s other winv st ≡ oneMore s p winv st
+  more-same : (winv : List Float) (st : Running) → NoRetry st → oneMore s other winv st ≡ oneMore s p winv st
   unfolding oneMore
-  more-second winv st e = judged-second _ _ e
+  more-same winv st n = judged-same _ _ n
 
-  go-second : (winv : List Float) (k : ℕ) (st : Running) → (st .run ≡ 1 → ⊥) → go s other winv k st ≡ go s p winv k st
+  go-same : (winv : List Float) (k : ℕ) (st : Running) → NoRetry st → go s other winv k st ≡ go s p winv k st
   unfolding go
-  go-second winv zero st n = refl
-  go-second winv (suc k) st n =
-      let next = go-second winv k (oneMore s p winv st) (λ h. n (more-back s p winv st h)) in
-      both-picked (λ (z z' : Running). z ≡ z') (isRunning (st .run)) _ _ _ _ (λ e. ap (go s other winv k) (more-second winv st (by-run (st .run) e (λ h. absurd (n h)) (λ h. h))) ∙ next) (λ e. refl)
+  go-same winv zero st n = refl
+  go-same winv (suc k) st n =
+      let next = go-same winv k (oneMore s p winv st) (λ h. n (more-back s p winv st h)) in
+      both-picked (λ (z z' : Running). z ≡ z') (isRunning (st .run)) _ _ _ _ (λ e. ap (go s other winv k) (more-same winv st n) ∙ next) (λ e. refl)
+
+-- a first run that has converged finishes
+module _ (s : Scene) (p : Parameters) where
+  judged-home : (stop : Bool) (st : Running) → st .run ≡ 1 → within s p (st .r) ≡ true → judged s p stop st ≡ finished st
+  judged-home stop st e h = judged-ends s p true stop st h refl ∙ first-ends s p true st e refl
+
+  judge-home : (st : Running) → st .run ≡ 1 → within s p (st .r) ≡ true → judge s p st ≡ finished st
+  unfolding judge
+  judge-home st e h = rw (ap isRunning e) (judged-home (leb (p .rounds) (st .done) || ltb 800 (rowCount s)) st e h)
+
+  module _ (winv : List Float) where
+    more-home : (st : Running) → st .run ≡ 1 → within s p (afterRound s winv st .r) ≡ true → oneMore s p winv st ≡ finished (afterRound s winv st)
+    unfolding oneMore
+    more-home st e h = judged-home _ (afterRound s winv st) e h
+
+    go-home : (j k : ℕ) (st : Running) → j < k → go s p winv j st .run ≡ 1 → within s p (afterRound s winv (go s p winv j st) .r) ≡ true
+        → go s p winv k st ≡ finished (afterRound s winv (go s p winv j st))
+    go-home j k st l e h =
+        let n = k - suc j in
+        let g : j + suc n ≡ k = omega arith in
+        let here = go s p winv j st in
+        ap (λ (i : ℕ). go s p winv i st) (sym g)
+        ∙ go-add s p winv j (suc n) st
+        ∙ go-more s p winv n here (ap isRunning e)
+        ∙ ap (go s p winv n) (more-home here e h)
+        ∙ go-stays s p winv n (finished (afterRound s winv here)) refl
+
+-- ---- by calls
+
+module _ (s : Scene) (p : Parameters) (drag : Option ℕ) where
+  on-first : (k limit : ℕ) (st : Running) → on s p drag k st .run ≡ 1 → on s (withLimit limit p) drag k st ≡ on s p drag k st
+  unfolding on
+  on-first k limit st h =
+      let winv = inverseWeights s p drag in
+      ap (go s (withLimit limit p) winv k) (judge-first s p limit st (go-back s p winv k (judge s p st) h)) ∙ go-first s p limit winv k (judge s p st) h
+
+  on-same : (k limit : ℕ) (st : Running) → NoRetry s p limit st → on s (withLimit limit p) drag k st ≡ on s p drag k st
+  unfolding on
+  on-same k limit st n =
+      let winv = inverseWeights s p drag in
+      ap (go s (withLimit limit p) winv k) (judge-same s p limit st n) ∙ go-same s p limit winv k (judge s p st) (λ h. n (judge-back s p st h))
+
+  on-at-once : (k : ℕ) (st : Running) → st .run ≡ 1 → within s p (st .r) ≡ true → on s p drag k st ≡ finished st
+  unfolding on
+  on-at-once k st e h = let winv = inverseWeights s p drag in ap (go s p winv k) (judge-home s p st e h) ∙ go-stays s p winv k (finished st) refl
+
+  on-later : (j k : ℕ) (st : Running) → j < k → on s p drag j st .run ≡ 1 → within s p (afterRound s (inverseWeights s p drag) (on s p drag j st) .r) ≡ true
+      → on s p drag k st ≡ finished (afterRound s (inverseWeights s p drag) (on s p drag j st))
+  unfolding on
+  on-later j k st l e h = go-home s p (inverseWeights s p drag) j k (judge s p st) l e h
+
+-- by another limit it goes on for as many rounds, and finishes with the same
+on-later-other : (s : Scene) (p : Parameters) (drag : Option ℕ) (j k limit : ℕ) (st : Running) → j < k → on s p drag j st .run ≡ 1
+    → within s p (afterRound s (inverseWeights s p drag) (on s p drag j st) .r) ≡ true
+    → on s (withLimit limit p) drag k st ≡ finished (afterRound s (inverseWeights s p drag) (on s p drag j st))
+on-later-other s p drag j k limit st l e h =
+    let winv = inverseWeights s p drag in
+    let a = on-first s p drag j limit st e in
+    on-later s (withLimit limit p) drag j k st l (ap (λ (z : Running). z .run) a ∙ e) (ap (λ (z : Running). within s p (afterRound s winv z .r)) a ∙ h)
+    ∙ ap (λ (z : Running). finished (afterRound s winv z)) a
 
 pub limit-at-the-begin : LimitAtTheBegin
-unfolding on
 limit-at-the-begin s p drag k limit st =
-    let winv = inverseWeights s p drag in
     record {
-      retry = λ e. ap (go s (withLimit limit p) winv k) (judge-second s p limit st e) ∙ go-second s p limit winv k (judge s p st) (λ h. let f = judge-back s p st h in omega arith);
-      first = λ h. ap (go s (withLimit limit p) winv k) (judge-first s p limit st (go-back s p winv k (judge s p st) h)) ∙ go-first s p limit winv k (judge s p st) h;
+      retry = λ e. on-same s p drag k limit st (λ h. absurd (omega arith));
+      first = λ h. on-first s p drag k limit st h;
+      at-once = λ e h. record { own = on-at-once s p drag k st e h; other = on-at-once s (withLimit limit p) drag k st e h };
+      later = λ j l e h. record { own = on-later s p drag j k st l e h; other = on-later-other s p drag j k limit st l e h };
+      unmoved = λ e. on-same s p drag k limit st (λ h. e);
     }
 
 -- ---- over the limit

@@ -18,7 +18,7 @@ use Rattle.scene.specs.Solve.{Scene, Parameters, inRange, unknowns, posesAt, ro
 use Rattle.scene.proofs.RowCountLaws.{rows-alike}
 use Rattle.closeness.specs.HowClosely.{roundsOf}
 use Rattle.closeness.proofs.HowCloselyLaws.{picked, either, none-within, zero-tolerance, range-tolerance, rounds-end, solved-converged, within-all, answer-closely}
-use Rattle.portions.specs.Portions.{Running, isRunning, finished, within, fresh, noRound, endRetry, beginRetry, endRun, judged, oneMore, go, start, inverseWeights, begin, answerAt}
+use Rattle.portions.specs.Portions.{Running, isRunning, finished, within, fresh, noRound, tried, afterRound, endRetry, beginRetry, endRun, judged, oneMore, go, start, inverseWeights, begin, answerAt}
 use Rattle.portions.specs.Laws.{Finishes, FinishesInTwoRuns, CloselyAt}
 use Rattle.portions.proofs.PortionLaws.{or-right, neither, Counts, counts, judged-on, judged-ends, go-none, go-more, go-stays, go-add}
 
@@ -70,14 +70,14 @@ module _ (s : Scene) (p : Parameters) (winv : List Float) where
   abbrev stateOf : Running → State
   stateOf st = record { x = st .x; r = st .r; cost = norm2 (st .r); mu = st .mu }
 
-  abbrev tried : Running → Tried
-  tried st = oneRound (rowsOf s) winv (stateOf st)
+  abbrev round : Running → Tried
+  round st = tried s winv st
 
   abbrev next : Running → Running
-  next st = let w = tried st .state in record { x = w .x; first = st .first; r = w .r; mu = w .mu; done = suc (st .done); run = st .run }
+  next st = afterRound s winv st
 
   abbrev stops : Running → Bool
-  stops st = not (tried st .better) || leb (p .rounds) (suc (st .done))
+  stops st = not (round st .better) || leb (p .rounds) (suc (st .done))
 
   more-is : (st : Running) → oneMore s p winv st ≡ judged s p (stops st) (next st)
   unfolding oneMore
@@ -118,20 +118,20 @@ module _ (s : Scene) (p : Parameters) (winv : List Float) where
         }
 
     -- what `solve` carries along is the next state
-    carried : tried st .better ≡ true → stateOf (next st) ≡ tried st .state
-    carried b = let w = tried st .state in ap (λ (c : Float). record { x = w .x; r = w .r; cost = c; mu = w .mu }) (sym (round-summed (rowsOf s) winv (stateOf st) b))
+    carried : round st .better ≡ true → stateOf (next st) ≡ round st .state
+    carried b = let w = round st .state in ap (λ (c : Float). record { x = w .x; r = w .r; cost = c; mu = w .mu }) (sym (round-summed (rowsOf s) winv (stateOf st) b))
 
     -- a round of `solve`
-    one-round : (k : ℕ) → (within s p (next st .r) ≡ false → tried st .better ≡ true → Comes s p winv st st (rounds (rowsOf s) winv (p .tolerance) k (suc (st .done)) (tried st .state)))
+    one-round : (k : ℕ) → (within s p (next st .r) ≡ false → round st .better ≡ true → Comes s p winv st st (rounds (rowsOf s) winv (p .tolerance) k (suc (st .done)) (round st .state)))
         → Comes s p winv st st (rounds (rowsOf s) winv (p .tolerance) (suc k) (st .done) (stateOf st))
     unfolding rounds
     one-round k on =
         either (Comes s p winv st st) (within s p (next st .r)) _ _ (λ e. ends-here true e refl)
-        (λ e. either (Comes s p winv st st) (tried st .better) _ _ (λ b. on e b) (λ b. ends-here false e (rw b)))
+        (λ e. either (Comes s p winv st st) (round st .better) _ _ (λ b. on e b) (λ b. ends-here false e (rw b)))
 
     -- with the last round that the set allows it ends
-    last-round : within s p (next st .r) ≡ false → tried st .better ≡ true → leb (p .rounds) (suc (st .done)) ≡ true
-        → Comes s p winv st st (rounds (rowsOf s) winv (p .tolerance) 0 (suc (st .done)) (tried st .state))
+    last-round : within s p (next st .r) ≡ false → round st .better ≡ true → leb (p .rounds) (suc (st .done)) ≡ true
+        → Comes s p winv st st (rounds (rowsOf s) winv (p .tolerance) 0 (suc (st .done)) (round st .state))
     unfolding rounds
     last-round w b l = ends-here (within s p (next st .r)) refl (rw (w, b, l))
 
@@ -213,7 +213,7 @@ better-x s first retry first' retry' e f g =
 
 module _ (s : Scene) (p : Parameters) where
   -- what follows the first run, and the retry
-  first-ends : (c : Bool) (st : Running) → st .run ≡ 1 → (c || eqb (unknowns s) 0) ≡ true → endRun s p c st ≡ finished st
+  pub first-ends : (c : Bool) (st : Running) → st .run ≡ 1 → (c || eqb (unknowns s) 0) ≡ true → endRun s p c st ≡ finished st
   unfolding endRun
   first-ends c st e f = rw (e, f)
 
@@ -221,7 +221,7 @@ module _ (s : Scene) (p : Parameters) where
   unfolding endRun
   retry-follows c st e f = rw (e, f)
 
-  pub retry-ends : (c : Bool) (st : Running) → st .run ≡ 2 → endRun s p c st ≡ endRetry s c st
+  retry-ends : (c : Bool) (st : Running) → st .run ≡ 2 → endRun s p c st ≡ endRetry s c st
   unfolding endRun
   retry-ends c st e = rw e
 

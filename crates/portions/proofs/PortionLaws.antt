@@ -8,10 +8,10 @@ use mathlib.Core.Option.{Option}
 use lib.Dec.{eqb, leb, ltb}
 use lib.Ieee.{Float}
 use borrow.Author.Tests.{leb-true, ltb-false, lt-leb, le-ltb, eqb-true}
-use Rattle.least_squares.specs.Lm.{listOf, norm2, oneRound}
+use Rattle.least_squares.specs.Lm.{listOf}
 use Rattle.scene.specs.Solve.{Scene, Parameters, fromTo, FINEST, COARSEST, inRange, unknowns, rowsOf, slightTurn}
 use Rattle.closeness.proofs.HowCloselyLaws.{picked}
-use Rattle.portions.specs.Portions.{Running, isRunning, finished, rowCount, within, fresh, noRound, endRetry, beginRetry, endRun, judged, judge, oneMore, go, start, inverseWeights, begin, on}
+use Rattle.portions.specs.Portions.{Running, isRunning, finished, rowCount, within, fresh, noRound, tried, endRetry, beginRetry, endRun, judged, judge, oneMore, go, start, inverseWeights, begin, on}
 use Rattle.portions.specs.Laws.{Settled, onAll, total, Portions, Schedules, PortionsOn, FinishedStays, JudgesToTheEnd, more, roundsMade, FewRounds, AtMostThePortion}
 
 -- ---- tests
@@ -121,9 +121,9 @@ module _ (s : Scene) (p : Parameters) where
     pub more-settled : (winv : List Float) (st : Running) → isRunning (st .run) ≡ true → Settled s p st → Settled s p (oneMore s p winv st)
     unfolding oneMore
     more-settled winv st r g =
-        let t = oneRound (rowsOf s) winv (record { x = st .x; r = st .r; cost = norm2 (st .r); mu = st .mu }) in
         let few : ltb 800 (rowCount s) ≡ false = or-right (leb (p .rounds) (st .done)) _ (or-right (within s p (st .r)) _ (g r)) in
-        judged-settled (not (t .better) || leb (p .rounds) (suc (st .done))) _ (λ e h. neither _ _ (or-right (not (t .better)) _ e) few)
+        let worse = not (tried s winv st .better) in
+        judged-settled (worse || leb (p .rounds) (suc (st .done))) _ (λ e h. neither _ _ (or-right worse _ e) few)
 
     pub go-settled : (winv : List Float) (k : ℕ) (st : Running) → Settled s p st → Settled s p (go s p winv k st)
     unfolding go

@@ -1,6 +1,6 @@
 -- What holds of solving by rounds: document 02, 6/14, clause by clause. Statements; the proofs stand in proofs/PortionLaws.antt, FinishLaws.antt, ChangeLaws.antt,
 -- OwnLaws.antt and KnownLaws.antt. `inRange` is test 15.
-use Prim.Native.Nat.{ℕ, zero, suc, _+_, _*_, _≤_}
+use Prim.Native.Nat.{ℕ, zero, suc, _+_, _*_, _≤_, _<_}
 use mathlib.Core.Path.{_≡_}
 use mathlib.Core.Bool.{Bool, true, false, _||_, cond}
 use mathlib.Core.List.{List, [], _∷_}
@@ -9,7 +9,7 @@ use lib.Dec.{eqb, leb, ltb}
 use lib.Ieee.{Float}
 use Rattle.scene.specs.Solve.{Scene, Parameters, inRange, unknowns, rowsOf, solveWith}
 use Rattle.closeness.specs.HowClosely.{AllSmall, HowClosely, roundsOf}
-use Rattle.portions.specs.Portions.{Running, isRunning, runOf, rowCount, within, beginRetry, endRun, judge, oneMore, go, start, inverseWeights, begin, on, answerAt}
+use Rattle.portions.specs.Portions.{Running, isRunning, runOf, finished, rowCount, afterRound, within, beginRetry, endRun, judge, oneMore, go, start, inverseWeights, begin, on, answerAt}
 
 -- by this set the run that goes on has not ended
 abbrev pub Settled : Scene → Parameters → Running → Type 0
@@ -78,13 +78,27 @@ pub record RetryBegun (s : Scene) (p : Parameters) (st : Running) : Type 0 where
 abbrev pub RetryBegins : Type 0
 RetryBegins = (s : Scene) (p : Parameters) (st : Running) → RetryBegun s p st
 
--- The row limit counts when a run begins: the retry goes on the same by any other limit, and so does the first run as long as it goes on.
+-- The row limit counts when a run begins: a call comes to the same state by any other limit, unless the retry begins in it. (A finished state stays by any set.)
 abbrev pub withLimit : ℕ → Parameters → Parameters
 withLimit limit p = record { tolerance = p .tolerance; rounds = p .rounds; rowLimit = limit; dragWeight = p .dragWeight }
 
+-- the call finishes with the state `last`, by its own limit and by the other
+pub record FinishedBy (s : Scene) (p : Parameters) (drag : Option ℕ) (k limit : ℕ) (st last : Running) : Type 0 where
+  pub own : on s p drag k st ≡ finished last
+  pub other : on s (withLimit limit p) drag k st ≡ finished last
+
 pub record SameByLimit (s : Scene) (p : Parameters) (drag : Option ℕ) (k limit : ℕ) (st : Running) : Type 0 where
+  -- the retry goes on
   pub retry : st .run ≡ 2 → on s (withLimit limit p) drag k st ≡ on s p drag k st
+  -- the first run goes on, and the call leaves it so
   pub first : on s p drag k st .run ≡ 1 → on s (withLimit limit p) drag k st ≡ on s p drag k st
+  -- the first run has converged before the call's first round
+  pub at-once : st .run ≡ 1 → within s p (st .r) ≡ true → FinishedBy s p drag k limit st st
+  -- j rounds leave the first run going on, and it converges with the round after them
+  pub later : (j : ℕ) → j < k → on s p drag j st .run ≡ 1
+      → let last = afterRound s (inverseWeights s p drag) (on s p drag j st) in within s p (last .r) ≡ true → FinishedBy s p drag k limit st last
+  -- nothing moves, so there is no retry
+  pub unmoved : eqb (unknowns s) 0 ≡ true → on s (withLimit limit p) drag k st ≡ on s p drag k st
 
 abbrev pub LimitAtTheBegin : Type 0
 LimitAtTheBegin = (s : Scene) (p : Parameters) (drag : Option ℕ) (k limit : ℕ) (st : Running) → SameByLimit s p drag k limit st

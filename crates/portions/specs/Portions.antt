@@ -8,7 +8,7 @@ use lib.ListN.{length}
 use lib.Dec.{eqb, leb, ltb}
 use lib.Ieee.{Float, binary64, le, ofBits}
 use Rattle.numbers.specs.MaxAbs.{maxAbs}
-use Rattle.least_squares.specs.Lm.{listOf, norm2, inverseWeight, oneRound}
+use Rattle.least_squares.specs.Lm.{Tried, listOf, norm2, inverseWeight, oneRound}
 use Rattle.scene.specs.Solve.{Scene, Parameters, Solution, unknowns, posesAt, rowsAt, rowsOf, framesFrom, weights, startAt, slightTurn, better}
 use Rattle.closeness.specs.HowClosely.{allWithin}
 
@@ -47,6 +47,16 @@ endRetry s converged st =
     let o = better s (record { x = st .first; converged = false; rounds = 0 }) (record { x = st .x; converged = converged; rounds = st .done }) in
     record { x = o .x; first = st .first; r = rowsOf s (o .x); mu = st .mu; done = st .done; run = 3 }
 
+-- one round as in `solve`, from the unknowns, the rows, the sum of their squares and the damping
+abbrev pub tried : Scene → List Float → Running → Tried
+tried s winv st = oneRound (rowsOf s) winv (record { x = st .x; r = st .r; cost = norm2 (st .r); mu = st .mu })
+
+-- the running state after that round, before it is judged
+abbrev pub afterRound : Scene → List Float → Running → Running
+afterRound s winv st =
+    let w = tried s winv st .state in
+    record { x = w .x; first = st .first; r = w .r; mu = w .mu; done = suc (st .done); run = st .run }
+
 -- by the scene and the call's set
 module _ (s : Scene) (p : Parameters) where
   -- the rows are all within the tolerance
@@ -77,13 +87,9 @@ module _ (s : Scene) (p : Parameters) where
   judge st = cond (isRunning (st .run)) (judged (leb (p .rounds) (st .done) || ltb 800 (rowCount s)) st) st
 
   module _ (winv : List Float) where
-    -- One round as in `solve`, from the unknowns, the rows, the sum of their squares and the damping; then it is judged whether the run ends: within the tolerance, with
-    -- nothing better found, or with as many rounds as the set allows.
+    -- One round; then it is judged whether the run ends: within the tolerance, with nothing better found, or with as many rounds as the set allows.
     unfoldable pub oneMore : Running → Running
-    oneMore st =
-        let t = oneRound (rowsOf s) winv (record { x = st .x; r = st .r; cost = norm2 (st .r); mu = st .mu }) in
-        let next : Running = record { x = t .state .x; first = st .first; r = t .state .r; mu = t .state .mu; done = suc (st .done); run = st .run } in
-        judged (not (t .better) || leb (p .rounds) (next .done)) next
+    oneMore st = let next = afterRound s winv st in judged (not (tried s winv st .better) || leb (p .rounds) (next .done)) next
 
     -- at most k rounds, those of both runs counted together
     unfoldable pub go : ℕ → Running → Running
