@@ -19,8 +19,8 @@ use Rattle.scene.proofs.RowCountLaws.{rows-alike}
 use Rattle.closeness.specs.HowClosely.{roundsOf}
 use Rattle.closeness.proofs.HowCloselyLaws.{picked, either, none-within, zero-tolerance, range-tolerance, rounds-end, solved-converged, within-all, answer-closely}
 use Rattle.portions.specs.Portions.{Running, isRunning, finished, within, fresh, noRound, tried, afterRound, endRetry, beginRetry, endRun, judged, oneMore, go, start, inverseWeights, begin, answerAt}
-use Rattle.portions.specs.Laws.{Finishes, FinishesInTwoRuns, CloselyAt}
-use Rattle.portions.proofs.PortionLaws.{or-right, neither, Counts, counts, judged-on, judged-ends, go-none, go-more, go-stays, go-add}
+use Rattle.portions.specs.Laws.{total, Finishes, FinishesInTwoRuns, OneState, CloselyAt}
+use Rattle.portions.proofs.PortionLaws.{or-right, neither, Counts, counts, judged-on, judged-ends, go-none, go-more, go-stays, go-add, schedules}
 
 -- ---- the sum of squares of a better step is that of its rows
 
@@ -289,15 +289,22 @@ answer-is s p drag range =
     let e = solved-converged s p drag t ∙ within-all (p .tolerance) t poses (s .rels) in
     ap (λ (c : Bool). record { poses = poses; frames = framesFrom poses (s .bodies); errors = map (λ rel. maxAbs (rowsAt poses rel)) (s .rels); converged = c }) (sym e)
 
+-- more rounds than `solve` takes change nothing
+enough : (s : Scene) (p : Parameters) (drag : Option ℕ) → inRange p ≡ true → (k : ℕ) → roundsOf s p drag ≤ k → begin s p drag k ≡ begin s p drag (roundsOf s p drag)
+unfolding begin
+enough s p drag range k h =
+    let winv = inverseWeights s p drag in
+    let n = roundsOf s p drag in
+    let g : n + (k - n) ≡ k = omega arith in
+    ap (λ (j : ℕ). go s p winv j (start s p)) (sym g)
+    ∙ go-add s p winv n (k - n) (start s p)
+    ∙ go-stays s p winv (k - n) _ (ap isRunning (in-all s p drag range .run-is))
+
 pub finishes : Finishes
 unfolding begin
 finishes s p drag range k h =
-    let winv = inverseWeights s p drag in
     let y = in-all s p drag range in
-    let n = roundsOf s p drag in
-    let g : n + (k - n) ≡ k = omega arith in
-    let e : go s p winv k (start s p) ≡ go s p winv n (start s p)
-    = ap (λ (j : ℕ). go s p winv j (start s p)) (sym g) ∙ go-add s p winv n (k - n) (start s p) ∙ go-stays s p winv (k - n) _ (ap isRunning (y .run-is)) in
+    let e = enough s p drag range k h in
     record {
       run-is = ap (λ (st : Running). st .run) e ∙ y .run-is;
       answer-is = ap (λ (st : Running). answerAt s p (st .x)) e ∙ ap (answerAt s p) (y .unknowns-are) ∙ answer-is s p drag range;
@@ -305,6 +312,18 @@ finishes s p drag range k h =
 
 pub finishes-in-two-runs : FinishesInTwoRuns
 finishes-in-two-runs s p drag range k h = let e = rounds-end s p drag in finishes s p drag range k (omega arith)
+
+-- any schedule is one call that begins, with the sum of its portions
+pub one-state : OneState
+one-state s p drag range k l ks ls h g =
+    let e = schedules s p drag range k ks in
+    let f = schedules s p drag range l ls in
+    let y = finishes s p drag range (k + total ks) h in
+    record {
+      same = e ∙ enough s p drag range (k + total ks) h ∙ sym (enough s p drag range (l + total ls) g) ∙ sym f;
+      run-is = ap (λ (st : Running). st .run) e ∙ y .run-is;
+      answer-is = ap (λ (st : Running). answerAt s p (st .x)) e ∙ y .answer-is;
+    }
 
 pub closely-at : CloselyAt
 unfolding answerAt

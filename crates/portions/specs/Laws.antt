@@ -47,6 +47,16 @@ Finishes = (s : Scene) (p : Parameters) (drag : Option ℕ) → inRange p ≡ tr
 abbrev pub FinishesInTwoRuns : Type 0
 FinishesInTwoRuns = (s : Scene) (p : Parameters) (drag : Option ℕ) → inRange p ≡ true → (k : ℕ) → 2 * p .rounds ≤ k → Finished s p drag k
 
+-- any portions end in one state: two schedules of calls that both have as many rounds as `solve` takes, a call that begins and any number that go on
+pub record OneEnd (s : Scene) (p : Parameters) (drag : Option ℕ) (k l : ℕ) (ks ls : List ℕ) : Type 0 where
+  pub same : onAll s p drag ks (begin s p drag k) ≡ onAll s p drag ls (begin s p drag l)
+  pub run-is : onAll s p drag ks (begin s p drag k) .run ≡ 3
+  pub answer-is : answerAt s p (onAll s p drag ks (begin s p drag k) .x) ≡ solveWith s p drag
+
+abbrev pub OneState : Type 0
+OneState = (s : Scene) (p : Parameters) (drag : Option ℕ) → inRange p ≡ true → (k l : ℕ) (ks ls : List ℕ)
+    → roundsOf s p drag ≤ k + total ks → roundsOf s p drag ≤ l + total ls → OneEnd s p drag k l ks ls
+
 -- a finished state stays, by any set
 abbrev pub FinishedStays : Type 0
 FinishedStays = (s : Scene) (p : Parameters) (drag : Option ℕ) (k : ℕ) (st : Running) → isRunning (st .run) ≡ false → on s p drag k st ≡ st
