@@ -1,5 +1,5 @@
--- Rounds one after another in the scratch: one round more is the definition's, those that are left come to what all come to, and a call that begins or goes on comes to what
--- the definition does from its first state. Assumes nothing.
+-- Rounds one after another in the scratch: one round more is the definition's, those that are left come to what all come to, those made and those left are as many as the
+-- definition makes, and a call that begins or goes on comes to what the definition does from its first state. Assumes nothing.
 use mathlib.Core.Path.{_≡_, refl, sym, ap, subst, _∙_}
 use mathlib.Core.Bool.{Bool, true, false, not, _||_}
 use mathlib.Core.List.{List, map}
@@ -20,11 +20,12 @@ use Rattle.rounds.specs.Parts.{Arranged}
 use Rattle.rounds.specs.Rounds.{weightsIn, unknownsIn, firstIn, rowsIn, stateIn, triedIn, RoundMade}
 use Rattle.rounds.specs.declared.parts.SolveParts.{SolveParts as PartsStruct}
 use Rattle.rounds.specs.declared.trial.Tried.{Tried as TriedStruct}
-use Rattle.portions.specs.Portions.{Running, isRunning, rowCount, fresh, within, judged, judge, oneMore, go, start, inverseWeights, begin, on}
+use Rattle.portions.specs.Portions.{Running, isRunning, rowCount, fresh, within, judged, judge, oneMore, go, roundsMade, start, inverseWeights, begin, on}
 use Rattle.portions.specs.Laws.{Settled}
-use Rattle.portions.proofs.PortionLaws.{counts, or-left, or-right, more-settled, go-stays, go-more, go-none}
-use Rattle.by_rounds.specs.Running.{runningIn, worked, Went, Stands}
+use Rattle.portions.proofs.PortionLaws.{counts, or-left, or-right, more-settled, go-stays, go-more, go-none, none-made, made-stays, made-more}
+use Rattle.by_rounds.specs.Running.{runningIn, worked, Went, WentBy, Stands, StandsBy}
 use Rattle.by_rounds.specs.declared.ends.Going.{Going as GoingStruct}
+use Rattle.by_rounds.specs.declared.portion.Portion.{Portion as PortionStruct}
 use Rattle.by_rounds.proofs.EndLaws.{atBegin, row-count-is}
 
 -- ---- one round more
@@ -54,17 +55,20 @@ module _ (sc : Scene) (c : SceneStruct) (p : PartsStruct) (q : Parameters) (s u 
 
 -- ---- rounds one after another
 
--- i rounds were made: those left come to what all come to
-pub record Gone (sc : Scene) (c : SceneStruct) (p : PartsStruct) (q : Parameters) (s t : List Float) (g e : GoingStruct) (portion i : ℕ) : Type 0 where
+-- i rounds are passed, and `made` were made: those left come to what all come to, and with those made they are as many
+pub record Gone (sc : Scene) (c : SceneStruct) (p : PartsStruct) (q : Parameters) (s t : List Float) (g e : GoingStruct) (portion i made : ℕ) : Type 0 where
   pub weights : weightsIn c p t ≡ weightsIn c p s
   pub size : length t ≡ length s
   pub left : go sc q (weightsIn c p s) (portion - i) (runningIn c p t e) ≡ go sc q (weightsIn c p s) portion (runningIn c p s g)
+  pub counted : made + roundsMade sc q (weightsIn c p s) (portion - i) (runningIn c p t e) ≡ roundsMade sc q (weightsIn c p s) portion (runningIn c p s g)
   pub settled : Settled sc q (runningIn c p t e)
 
-pub gone-start : (sc : Scene) (c : SceneStruct) (p : PartsStruct) (q : Parameters) (s : List Float) (g : GoingStruct) (portion : ℕ) → Settled sc q (runningIn c p s g) → Gone sc c p q s s g g portion 0
+pub gone-start : (sc : Scene) (c : SceneStruct) (p : PartsStruct) (q : Parameters) (s : List Float) (g : GoingStruct) (portion : ℕ) → Settled sc q (runningIn c p s g)
+    → Gone sc c p q s s g g portion 0 0
 gone-start sc c p q s g portion h =
     let z : portion - 0 ≡ portion = omega arith in
-    record { weights = refl; size = refl; left = ap (λ (k : ℕ). go sc q (weightsIn c p s) k (runningIn c p s g)) z; settled = h }
+    let m = ap (λ (k : ℕ). roundsMade sc q (weightsIn c p s) k (runningIn c p s g)) z in
+    record { weights = refl; size = refl; left = ap (λ (k : ℕ). go sc q (weightsIn c p s) k (runningIn c p s g)) z; counted = omega arith; settled = h }
 
 -- a run that goes on has few rows and has made few rounds
 pub record Few (c : SceneStruct) (e : GoingStruct) : Type 0 where
@@ -81,12 +85,16 @@ few-left sheet c p q t e running l range h f k =
     let z = row-count-is sheet c l in
     record { rows = omega (arith, under, z); done = omega (arith, made, n .most) }
 
-module _ (sc : Scene) (c : SceneStruct) (p : PartsStruct) (q : Parameters) (s t : List Float) (g e : GoingStruct) (portion i : ℕ) (running : Bool) (a : Gone sc c p q s t g e portion i) (f : running ≡ isRunning (e .run)) where
+module _ (sc : Scene) (c : SceneStruct) (p : PartsStruct) (q : Parameters) (s t : List Float) (g e : GoingStruct) (portion i made : ℕ) (running : Bool) (a : Gone sc c p q s t g e portion i made) (f : running ≡ isRunning (e .run)) where
   pub gone-on : (u : List Float) (next : GoingStruct) → inRange q ≡ true → i < portion → running ≡ true → Went c p t u next (oneMore sc q (weightsIn c p t) (runningIn c p t e))
-      → Gone sc c p q s u g next portion (i + 1)
+      → Gone sc c p q s u g next portion (i + 1) (made + 1)
   gone-on u next range h k w =
       let z : portion - i ≡ suc (portion - (i + 1)) = omega arith in
       let m : runningIn c p u next ≡ oneMore sc q (weightsIn c p s) (runningIn c p t e) = w .running ∙ ap (λ (l : List Float). oneMore sc q l (runningIn c p t e)) (a .weights) in
+      let rest = ap (roundsMade sc q (weightsIn c p s) (portion - (i + 1))) m in
+      let one = made-more sc q (weightsIn c p s) (portion - (i + 1)) (runningIn c p t e) (sym f ∙ k) in
+      let all = ap (λ (j : ℕ). roundsMade sc q (weightsIn c p s) j (runningIn c p t e)) z in
+      let before = a .counted in
       record {
         weights = w .weights ∙ a .weights;
         size = w .size ∙ a .size;
@@ -95,20 +103,35 @@ module _ (sc : Scene) (c : SceneStruct) (p : PartsStruct) (q : Parameters) (s t 
             ∙ sym (go-more sc q (weightsIn c p s) (portion - (i + 1)) (runningIn c p t e) (sym f ∙ k))
             ∙ ap (λ (j : ℕ). go sc q (weightsIn c p s) j (runningIn c p t e)) (sym z)
             ∙ a .left;
+        counted = omega arith;
         settled = subst (Settled sc q) (sym m) (more-settled sc q (counts q range) (weightsIn c p s) (runningIn c p t e) (sym f ∙ k) (a .settled));
       }
 
-  pub gone-stop : running ≡ false → Went c p s t e (go sc q (weightsIn c p s) portion (runningIn c p s g))
-  gone-stop k = record { running = sym (go-stays sc q (weightsIn c p s) (portion - i) (runningIn c p t e) (sym f ∙ k)) ∙ a .left; weights = a .weights; size = a .size }
+  pub gone-stop : running ≡ false
+      → WentBy c p s t (record { going = e; made = made }) (go sc q (weightsIn c p s) portion (runningIn c p s g)) (roundsMade sc q (weightsIn c p s) portion (runningIn c p s g))
+  gone-stop k =
+      let none = made-stays sc q (weightsIn c p s) (portion - i) (runningIn c p t e) (sym f ∙ k) in
+      let all = a .counted in
+      record {
+        went = record { running = sym (go-stays sc q (weightsIn c p s) (portion - i) (runningIn c p t e) (sym f ∙ k)) ∙ a .left; weights = a .weights; size = a .size };
+        made-is = omega arith;
+      }
 
-pub gone-end : (sc : Scene) (c : SceneStruct) (p : PartsStruct) (q : Parameters) (s t : List Float) (g e : GoingStruct) (portion i : ℕ) → i ≡ portion → Gone sc c p q s t g e portion i
-    → Went c p s t e (go sc q (weightsIn c p s) portion (runningIn c p s g))
-gone-end sc c p q s t g e portion i h a =
+pub gone-end : (sc : Scene) (c : SceneStruct) (p : PartsStruct) (q : Parameters) (s t : List Float) (g e : GoingStruct) (portion i made : ℕ) → i ≡ portion
+    → Gone sc c p q s t g e portion i made
+    → WentBy c p s t (record { going = e; made = made }) (go sc q (weightsIn c p s) portion (runningIn c p s g)) (roundsMade sc q (weightsIn c p s) portion (runningIn c p s g))
+gone-end sc c p q s t g e portion i made h a =
     let z : portion - i ≡ 0 = omega arith in
+    let none = ap (λ (j : ℕ). roundsMade sc q (weightsIn c p s) j (runningIn c p t e)) z ∙ none-made sc q (weightsIn c p s) (runningIn c p t e) in
+    let all = a .counted in
     record {
-      running = sym (go-none sc q (weightsIn c p s) (runningIn c p t e)) ∙ ap (λ (j : ℕ). go sc q (weightsIn c p s) j (runningIn c p t e)) (sym z) ∙ a .left;
-      weights = a .weights;
-      size = a .size;
+      went =
+          record {
+            running = sym (go-none sc q (weightsIn c p s) (runningIn c p t e)) ∙ ap (λ (j : ℕ). go sc q (weightsIn c p s) j (runningIn c p t e)) (sym z) ∙ a .left;
+            weights = a .weights;
+            size = a .size;
+          };
+      made-is = omega arith;
     }
 
 -- ---- a call
@@ -123,10 +146,16 @@ pub ready-then : (c : SceneStruct) (p : PartsStruct) (s t u : List Float) (g h :
     → Went c p t u h (f (runningIn c p t g)) → Ready c p s u h (f a) winv
 ready-then c p s t u g h a winv f x w = record { running = w .running ∙ ap f (x .running); weights = w .weights ∙ x .weights; size = w .size ∙ x .size }
 
-pub ready-gone : (sc : Scene) (c : SceneStruct) (p : PartsStruct) (q : Parameters) (s t u : List Float) (g h : GoingStruct) (a b : Running) (winv : List Float) (portion : ℕ) → Ready c p s t g a winv
-    → Went c p t u h (go sc q (weightsIn c p t) portion (runningIn c p t g)) → go sc q winv portion a ≡ b → Stands c p s u h b
+pub ready-gone : (sc : Scene) (c : SceneStruct) (p : PartsStruct) (q : Parameters) (s t u : List Float) (g : GoingStruct) (h : PortionStruct) (a b : Running) (winv : List Float) (portion : ℕ)
+    → Ready c p s t g a winv
+    → WentBy c p t u h (go sc q (weightsIn c p t) portion (runningIn c p t g)) (roundsMade sc q (weightsIn c p t) portion (runningIn c p t g))
+    → go sc q winv portion a ≡ b → StandsBy c p s u h b (roundsMade sc q winv portion a)
 ready-gone sc c p q s t u g h a b winv portion x w e =
-    record { running = w .running ∙ (λ z. go sc q (x .weights z) portion (x .running z)) ∙ e; size = w .size ∙ x .size }
+    let y = w .went in
+    record {
+      stands = record { running = y .running ∙ (λ z. go sc q (x .weights z) portion (x .running z)) ∙ e; size = y .size ∙ x .size };
+      made-is = w .made-is ∙ (λ z. roundsMade sc q (x .weights z) portion (x .running z));
+    }
 
 -- begun, the rows of the first unknowns worked
 pub begun-is : (sc : Scene) (c : SceneStruct) (p : PartsStruct) (q : Parameters) (drag : Option ℕ) (s t u v w : List Float) (g : GoingStruct) → c .n ≡ unknowns sc → Arranged c p (length s)

@@ -29,6 +29,7 @@ use Rattle.by_rounds.specs.Running.{runningIn, Stands}
 use Rattle.by_rounds.specs.State.{stateSize, heldIn}
 use Rattle.by_rounds.specs.Held.{HeldPut, Left}
 use Rattle.by_rounds.specs.declared.ends.Going.{Going as GoingStruct}
+use Rattle.by_rounds.specs.declared.portion.Portion.{Portion as PortionStruct}
 use Rattle.by_rounds.specs.declared.held.Reached.{Reached as ReachedStruct}
 
 -- ---- taken to the scratch
@@ -131,11 +132,15 @@ length-rels : (sheet : List ℕ) (c : SceneStruct) → length (sceneOf sheet c .
 unfolding sceneIn
 length-rels sheet c = length-listOf (λ j. relAt sheet (c .rels + 264 * j)) (c .k)
 
-module _ (sheet : List ℕ) (c : SceneStruct) (p : PartsStruct) (q : Parameters) (s : List Float) (g : GoingStruct) (state state' poses poses' frames frames' errors errors' : List Float) (ok : Bool) where
+module _ (sheet : List ℕ) (c : SceneStruct) (p : PartsStruct) (q : Parameters) (s : List Float) (y : PortionStruct) (state state' poses poses' frames frames' errors errors' : List Float) (ok : Bool) where
+  abbrev g : GoingStruct
+  g = y .going
+
   pub left-is : HeldPut c p s (g .mu) state state' → Shown (sceneOf sheet c) (c .m) (c .k) (unknownsIn c p s) poses poses' frames frames' errors errors' → ok ≡ allWithin (q .tolerance) (take (c .k) errors')
-      → Left (sceneOf sheet c) q c (runningIn c p s g) state state' poses poses' frames frames' errors errors' (record { done = g .done; run = g .run; converged = ok })
+      → Left (sceneOf sheet c) q c (runningIn c p s g) (y .made) state state' poses poses' frames frames' errors errors'
+      (record { done = g .done; run = g .run; made = y .made; converged = ok })
   unfolding answerAt
-  left-is h y e =
+  left-is h shown e =
       let sc = sceneOf sheet c in
       let l : List Float = map (λ (rel : Rel). maxAbs (rowsAt (posesAt sc (unknownsIn c p s)) rel)) (sc .rels) in
       let n : length l ≡ c .k = length-map _ (sc .rels) ∙ length-rels sheet c in
@@ -143,16 +148,19 @@ module _ (sheet : List ℕ) (c : SceneStruct) (p : PartsStruct) (q : Parameters)
         state-is = h .doubles;
         done-is = refl;
         run-is = refl;
-        poses-are = y .poses-are;
-        frames-are = y .frames-are;
-        errors-are = y .errors-are;
-        converged = e ∙ ap (allWithin (q .tolerance)) (ap (take (c .k)) (y .errors-are) ∙ take-at l (drop (c .k) errors) (c .k) n);
+        made-is = refl;
+        poses-are = shown .poses-are;
+        frames-are = shown .frames-are;
+        errors-are = shown .errors-are;
+        converged = e ∙ ap (allWithin (q .tolerance)) (ap (take (c .k)) (shown .errors-are) ∙ take-at l (drop (c .k) errors) (c .k) n);
         damping = h .damping;
         unknowns = h .unknowns;
         first = h .first;
         rows = h .rows;
       }
 
-pub left-as : (sc : Scene) (q : Parameters) (c : SceneStruct) (a b : Running) (state state' poses poses' frames frames' errors errors' : List Float) (e : ReachedStruct)
-    → Left sc q c a state state' poses poses' frames frames' errors errors' e → a ≡ b → Left sc q c b state state' poses poses' frames frames' errors errors' e
-left-as sc q c a b state state' poses poses' frames frames' errors errors' e l h = subst (λ (st : Running). Left sc q c st state state' poses poses' frames frames' errors errors' e) h l
+pub left-as : (sc : Scene) (q : Parameters) (c : SceneStruct) (a b : Running) (i j : ℕ) (state state' poses poses' frames frames' errors errors' : List Float) (e : ReachedStruct)
+    → Left sc q c a i state state' poses poses' frames frames' errors errors' e → a ≡ b → i ≡ j → Left sc q c b j state state' poses poses' frames frames' errors errors' e
+left-as sc q c a b i j state state' poses poses' frames frames' errors errors' e l h k =
+    subst (λ (n : ℕ). Left sc q c b n state state' poses poses' frames frames' errors errors' e) k
+    (subst (λ (st : Running). Left sc q c st i state state' poses poses' frames frames' errors errors' e) h l)

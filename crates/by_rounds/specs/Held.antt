@@ -1,6 +1,6 @@
 -- What a call by rounds leaves in the caller's memory: the running state, and the answer for its unknowns in the slices that `solve` fills. A longer slice keeps its rest.
 -- specs/State.antt says how a state stands there. Document 02, 6/14. Definitions only.
-use Prim.Native.Nat.{_+_, _*_, _≤_}
+use Prim.Native.Nat.{ℕ, _+_, _*_, _≤_}
 use mathlib.Core.Path.{_≡_}
 use mathlib.Core.List.{List, _∷_, _++_}
 use lib.ListN.{length, getD, drop}
@@ -33,11 +33,13 @@ pub record HeldPut (c : SceneStruct) (p : PartsStruct) (s : List Float) (mu : Fl
   pub first : part state' (1 + c .n) (c .n) ≡ firstIn c p s
   pub rows : part state' (1 + 2 * c .n) (c .rows) ≡ rowsIn c p s
 
--- what a call leaves, having come to the state st: the slices at entry and at exit
-pub record Left (sc : Scene) (q : Parameters) (c : SceneStruct) (st : Running) (state state' poses poses' frames frames' errors errors' : List Float) (e : ReachedStruct) : Type 0 where
+-- what a call leaves, having come to the state st by so many rounds: the slices at entry and at exit
+pub record Left (sc : Scene) (q : Parameters) (c : SceneStruct) (st : Running) (made : ℕ) (state state' poses poses' frames frames' errors errors' : List Float) (e : ReachedStruct) : Type 0 where
   pub state-is : state' ≡ stateDoubles st ++ drop (stateSize (c .n) (c .rows)) state
   pub done-is : e .done ≡ st .done
   pub run-is : e .run ≡ st .run
+  -- the code makes as many rounds as the definition
+  pub made-is : e .made ≡ made
   -- the answer for the unknowns of the state
   pub poses-are : poses' ≡ posesDoubles (answerAt sc q (st .x) .poses) ++ drop (12 * c .m) poses
   pub frames-are : frames' ≡ framesDoubles (answerAt sc q (st .x) .frames) ++ drop (12 * c .m) frames

@@ -38,7 +38,11 @@ pub fn solve_begin(
     requires { ⌜ definitions.inRange (parametersOf q) ≡ true ⌝ }
     requires { ⌜ need scene ≤ length (now s) ⌝ }
     requires { ⌜ held.Room scene (now state) (now poses) (now frames) (now errors) ⌝ }
-    ensures { λ e. ⌜ held.Left (sceneOf (now (sheet .entry)) scene) (parametersOf q) scene (portions.begin (sceneOf (now (sheet .entry)) scene) (parametersOf q) (bodyNumber drag) portion) (now (state .entry)) (now (state .exit)) (now (poses .entry)) (now (poses .exit)) (now (frames .entry)) (now (frames .exit)) (now (errors .entry)) (now (errors .exit)) e ⌝ }
+    ensures { λ e. ⌜ held.Left (sceneOf (now (sheet .entry)) scene) (parametersOf q) scene
+        (portions.begin (sceneOf (now (sheet .entry)) scene) (parametersOf q) (bodyNumber drag) portion)
+        (portions.beginMade (sceneOf (now (sheet .entry)) scene) (parametersOf q) (bodyNumber drag) portion)
+        (now (state .entry)) (now (state .exit)) (now (poses .entry)) (now (poses .exit))
+        (now (frames .entry)) (now (frames .exit)) (now (errors .entry)) (now (errors .exit)) e ⌝ }
 {
     let p = solve_parts(scene);
     let g = begin(sheet, scene, s, p, q, drag, portion);
@@ -64,7 +68,13 @@ pub fn solve_on(
     requires { ⌜ definitions.inRange (parametersOf q) ≡ true ⌝ }
     requires { ⌜ need scene ≤ length (now s) ⌝ }
     requires { ⌜ held.Room scene (now state) (now poses) (now frames) (now errors) ⌝ }
-    ensures { λ e. ⌜ held.Left (sceneOf (now (sheet .entry)) scene) (parametersOf q) scene (portions.on (sceneOf (now (sheet .entry)) scene) (parametersOf q) (bodyNumber drag) portion (state_spec.heldIn (scene .n) (scene .rows) done run (now (state .entry)))) (now (state .entry)) (now (state .exit)) (now (poses .entry)) (now (poses .exit)) (now (frames .entry)) (now (frames .exit)) (now (errors .entry)) (now (errors .exit)) e ⌝ }
+    ensures { λ e. ⌜ held.Left (sceneOf (now (sheet .entry)) scene) (parametersOf q) scene
+        (portions.on (sceneOf (now (sheet .entry)) scene) (parametersOf q) (bodyNumber drag) portion
+        (state_spec.heldIn (scene .n) (scene .rows) done run (now (state .entry))))
+        (portions.onMade (sceneOf (now (sheet .entry)) scene) (parametersOf q) (bodyNumber drag) portion
+        (state_spec.heldIn (scene .n) (scene .rows) done run (now (state .entry))))
+        (now (state .entry)) (now (state .exit)) (now (poses .entry)) (now (poses .exit))
+        (now (frames .entry)) (now (frames .exit)) (now (errors .entry)) (now (errors .exit)) e ⌝ }
 {
     let p = solve_parts(scene);
     let g = take_held(scene, s, p, done, run, state);

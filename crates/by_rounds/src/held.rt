@@ -12,16 +12,19 @@ ghost use Rattle.by_rounds.specs.State as state_spec;
 ghost use Rattle.by_rounds.specs.Held as held;
 use crate::ends::Going;
 use crate::ends::is_running;
+use crate::portion::Portion;
 use placement::solve::copy_over;
 use placement::solve::put_answer;
 use rounds::parts::SolveParts;
 use scene::parameters::Parameters;
 use scene::scene::Scene;
 
-// What a call tells beside the lent slices: the rounds that the present run has made, which run it is, and whether every error is within the tolerance.
+// What a call tells beside the lent slices: the rounds that the present run has made, which run it is, the rounds that the call has made, and whether every error is within
+// the tolerance.
 pub struct Reached {
     pub done: u32,
     pub run: u8,
+    pub made: usize,
     pub converged: bool,
 }
 
@@ -94,7 +97,7 @@ pub fn put_reached(
     s: &mut [f64],
     p: SolveParts,
     q: Parameters,
-    g: Going,
+    h: Portion,
     state: &mut [f64],
     poses: &mut [f64],
     frames: &mut [f64],
@@ -103,8 +106,12 @@ pub fn put_reached(
     requires { ⌜ Laid (now sheet) scene ⌝ }
     requires { ⌜ Arranged scene p (length (now s)) ⌝ }
     requires { ⌜ held.Room scene (now state) (now poses) (now frames) (now errors) ⌝ }
-    ensures { λ e. ⌜ held.Left (sceneOf (now (sheet .entry)) scene) (parametersOf q) scene (spec.runningIn scene p (now (s .entry)) g) (now (state .entry)) (now (state .exit)) (now (poses .entry)) (now (poses .exit)) (now (frames .entry)) (now (frames .exit)) (now (errors .entry)) (now (errors .exit)) e ⌝ }
+    ensures { λ e. ⌜ held.Left (sceneOf (now (sheet .entry)) scene) (parametersOf q) scene
+        (spec.runningIn scene p (now (s .entry)) (h .going)) (h .made)
+        (now (state .entry)) (now (state .exit)) (now (poses .entry)) (now (poses .exit))
+        (now (frames .entry)) (now (frames .exit)) (now (errors .entry)) (now (errors .exit)) e ⌝ }
 {
+    let g = h.going;
     let run = g.run;
     put_held(s, scene, p, g.mu, state);
     put_answer(sheet, scene, s, p, poses, frames, errors);
@@ -112,6 +119,7 @@ pub fn put_reached(
     Reached {
         done: g.done,
         run,
+        made: h.made,
         converged,
     }
 }

@@ -66,6 +66,12 @@ fn one_more(
     judged(sheet, scene, s, p, q, stop, next)
 }
 
+// What a portion of rounds has come to, and how many rounds it has made.
+pub struct Portion {
+    pub going: Going,
+    pub made: usize,
+}
+
 // At most `portion` rounds, those of both runs counted together.
 fn go(
     sheet: &[u8],
@@ -75,25 +81,31 @@ fn go(
     q: Parameters,
     portion: usize,
     g: Going,
-) -> Going
+) -> Portion
     requires { ⌜ Laid (now sheet) scene ⌝ }
     requires { ⌜ Arranged scene p (length (now s)) ⌝ }
     requires { ⌜ scene .n ≤ 384 ⌝ }
     requires { ⌜ definitions.inRange (parametersOf q) ≡ true ⌝ }
     requires { ⌜ laws.Settled (sceneOf (now sheet) scene) (parametersOf q) (spec.runningIn scene p (now s) g) ⌝ }
     requires { ⌜ lm.allFinite (rounds_spec.weightsIn scene p (now s)) ≡ true ⌝ }
-    ensures { λ r. ⌜ spec.Went scene p (now (s .entry)) (now (s .exit)) r (portions.go (sceneOf (now (sheet .entry)) scene) (parametersOf q) (rounds_spec.weightsIn scene p (now (s .entry))) portion (spec.runningIn scene p (now (s .entry)) g)) ⌝ }
+    ensures { λ r. ⌜ spec.WentBy scene p (now (s .entry)) (now (s .exit)) r
+        (portions.go (sceneOf (now (sheet .entry)) scene) (parametersOf q)
+        (rounds_spec.weightsIn scene p (now (s .entry))) portion (spec.runningIn scene p (now (s .entry)) g))
+        (portions.roundsMade (sceneOf (now (sheet .entry)) scene) (parametersOf q)
+        (rounds_spec.weightsIn scene p (now (s .entry))) portion (spec.runningIn scene p (now (s .entry)) g)) ⌝ }
 {
     let mut e = g;
+    let mut made: usize = 0;
     for i in 0..portion {
         if is_running(e.run) {
             let next = one_more(sheet, scene, s, p, q, e);
             e = next;
+            made += 1;
         } else {
-            return e;
+            return Portion { going: e, made };
         }
     }
-    e
+    Portion { going: e, made }
 }
 
 // A call that begins, for a portion of rounds.
@@ -105,12 +117,14 @@ pub fn begin(
     q: Parameters,
     drag: BodyRef,
     portion: usize,
-) -> Going
+) -> Portion
     requires { ⌜ Laid (now sheet) scene ⌝ }
     requires { ⌜ Arranged scene p (length (now s)) ⌝ }
     requires { ⌜ scene .n ≤ 384 ⌝ }
     requires { ⌜ definitions.inRange (parametersOf q) ≡ true ⌝ }
-    ensures { λ r. ⌜ spec.Stands scene p (now (s .entry)) (now (s .exit)) r (portions.begin (sceneOf (now (sheet .entry)) scene) (parametersOf q) (bodyNumber drag) portion) ⌝ }
+    ensures { λ r. ⌜ spec.StandsBy scene p (now (s .entry)) (now (s .exit)) r
+        (portions.begin (sceneOf (now (sheet .entry)) scene) (parametersOf q) (bodyNumber drag) portion)
+        (portions.beginMade (sceneOf (now (sheet .entry)) scene) (parametersOf q) (bodyNumber drag) portion) ⌝ }
 {
     let n = scene.n;
     inverse_weights(sheet, scene, s, p.weights, q.weight, drag);
@@ -137,12 +151,16 @@ pub fn on(
     drag: BodyRef,
     portion: usize,
     g: Going,
-) -> Going
+) -> Portion
     requires { ⌜ Laid (now sheet) scene ⌝ }
     requires { ⌜ Arranged scene p (length (now s)) ⌝ }
     requires { ⌜ scene .n ≤ 384 ⌝ }
     requires { ⌜ definitions.inRange (parametersOf q) ≡ true ⌝ }
-    ensures { λ r. ⌜ spec.Stands scene p (now (s .entry)) (now (s .exit)) r (portions.on (sceneOf (now (sheet .entry)) scene) (parametersOf q) (bodyNumber drag) portion (spec.runningIn scene p (now (s .entry)) g)) ⌝ }
+    ensures { λ r. ⌜ spec.StandsBy scene p (now (s .entry)) (now (s .exit)) r
+        (portions.on (sceneOf (now (sheet .entry)) scene) (parametersOf q) (bodyNumber drag) portion
+        (spec.runningIn scene p (now (s .entry)) g))
+        (portions.onMade (sceneOf (now (sheet .entry)) scene) (parametersOf q) (bodyNumber drag) portion
+        (spec.runningIn scene p (now (s .entry)) g)) ⌝ }
 {
     inverse_weights(sheet, scene, s, p.weights, q.weight, drag);
     let h = judge(sheet, scene, s, p, q, g);

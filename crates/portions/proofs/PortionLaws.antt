@@ -1,4 +1,5 @@
--- Portions: a call leaves no run that has ended by its set, and judging leaves such a state as it is; so portions come to their sum. Assumes nothing.
+-- Portions: a call leaves no run that has ended by its set, and judging leaves such a state as it is; so portions come to their sum. A portion makes a round while the state
+-- runs, so it makes them all unless it finishes. Assumes nothing.
 use Prim.Native.Nat.{ℕ, zero, suc, _+_, _≤_}
 use native.Mathlib.Omega.{arith}
 use mathlib.Core.Path.{_≡_, refl, sym, ap, _∙_}
@@ -11,8 +12,8 @@ use borrow.Author.Tests.{leb-true, ltb-false, lt-leb, le-ltb, eqb-true}
 use Rattle.least_squares.specs.Lm.{listOf}
 use Rattle.scene.specs.Solve.{Scene, Parameters, fromTo, FINEST, COARSEST, inRange, unknowns, rowsOf, slightTurn}
 use Rattle.closeness.proofs.HowCloselyLaws.{picked}
-use Rattle.portions.specs.Portions.{Running, isRunning, finished, rowCount, within, fresh, noRound, tried, endRetry, beginRetry, endRun, judged, judge, oneMore, go, start, inverseWeights, begin, on}
-use Rattle.portions.specs.Laws.{Settled, onAll, total, Portions, Schedules, PortionsOn, FinishedStays, JudgesToTheEnd, more, roundsMade, FewRounds, AtMostThePortion}
+use Rattle.portions.specs.Portions.{Running, isRunning, finished, rowCount, within, fresh, noRound, tried, endRetry, beginRetry, endRun, judged, judge, oneMore, go, roundsMade, start, inverseWeights, begin, on}
+use Rattle.portions.specs.Laws.{Settled, onAll, total, Portions, Schedules, PortionsOn, FinishedStays, JudgesToTheEnd, more, PortionMade, MakesThePortion}
 
 -- ---- tests
 
@@ -184,10 +185,11 @@ module _ (s : Scene) (p : Parameters) where
     pub go-on : Counts p → (k l : ℕ) (st : Running) → Settled s p st → go s p winv l (judge s p (go s p winv k st)) ≡ go s p winv (k + l) st
     go-on n k l st g = ap (go s p winv l) (settled (go s p winv k st) (go-settled n winv k st g)) ∙ sym (go-add k l st)
 
-    made : (k : ℕ) (st : Running) → go s p winv k st ≡ more s p winv (roundsMade s p winv k st) st
+    -- how many a portion makes
+    led : (k : ℕ) (st : Running) → go s p winv k st ≡ more s p winv (roundsMade s p winv k st) st
     unfolding go more roundsMade
-    made zero st = refl
-    made (suc k) st = both (made k (oneMore s p winv st)) (isRunning (st .run))
+    led zero st = refl
+    led (suc k) st = both (led k (oneMore s p winv st)) (isRunning (st .run))
       where
         both : go s p winv k (oneMore s p winv st) ≡ more s p winv (roundsMade s p winv k (oneMore s p winv st)) (oneMore s p winv st) → (b : Bool)
             → cond b (go s p winv k (oneMore s p winv st)) st ≡ more s p winv (cond b (suc (roundsMade s p winv k (oneMore s p winv st))) 0) st
@@ -199,8 +201,32 @@ module _ (s : Scene) (p : Parameters) where
     few zero st = omega arith
     few (suc k) st = let h = few k (oneMore s p winv st) in picked (λ (j : ℕ). j ≤ suc k) (isRunning (st .run)) _ _ (λ e. omega arith) (λ e. omega arith)
 
-    few-rounds : (k : ℕ) (st : Running) → FewRounds s p winv k st (go s p winv k st)
-    few-rounds k st = record { made = made k st; few = few k st }
+    all : (k : ℕ) (st : Running) → isRunning (go s p winv k st .run) ≡ true → roundsMade s p winv k st ≡ k
+    unfolding go roundsMade
+    all zero st r = refl
+    all (suc k) st r = both (all k (oneMore s p winv st)) (isRunning (st .run)) refl r
+      where
+        both : (isRunning (go s p winv k (oneMore s p winv st) .run) ≡ true → roundsMade s p winv k (oneMore s p winv st) ≡ k) → (b : Bool) → isRunning (st .run) ≡ b
+            → isRunning (cond b (go s p winv k (oneMore s p winv st)) st .run) ≡ true → cond b (suc (roundsMade s p winv k (oneMore s p winv st))) 0 ≡ suc k
+        both next true e h = ap suc (next h)
+        both next false e h = absurd (true≢false (sym h ∙ e))
+
+    portion-made : (k : ℕ) (st : Running) → PortionMade s p winv k st (go s p winv k st)
+    portion-made k st = record { led = led k st; few = few k st; all = all k st }
+
+    -- and step by step
+    pub none-made : (st : Running) → roundsMade s p winv 0 st ≡ 0
+    unfolding roundsMade
+    none-made st = refl
+
+    pub made-stays : (k : ℕ) (st : Running) → isRunning (st .run) ≡ false → roundsMade s p winv k st ≡ 0
+    unfolding roundsMade
+    made-stays zero st e = refl
+    made-stays (suc k) st e = rw e
+
+    pub made-more : (k : ℕ) (st : Running) → isRunning (st .run) ≡ true → roundsMade s p winv (suc k) st ≡ suc (roundsMade s p winv k (oneMore s p winv st))
+    unfolding roundsMade
+    made-more k st e = rw e
 
 -- ---- the laws
 
@@ -233,8 +259,8 @@ pub finished-stays : FinishedStays
 unfolding on
 finished-stays s p drag k st e = ap (go s p (inverseWeights s p drag) k) (judge-stays s p st e) ∙ go-stays s p (inverseWeights s p drag) k st e
 
-pub at-most-the-portion : AtMostThePortion
+pub makes-the-portion : MakesThePortion
 unfolding begin on
-at-most-the-portion s p drag k =
+makes-the-portion s p drag k =
     let winv = inverseWeights s p drag in
-    record { of-begin = few-rounds s p winv k (start s p); of-on = λ st. few-rounds s p winv k (judge s p st) }
+    record { of-begin = portion-made s p winv k (start s p); of-on = λ st. portion-made s p winv k (judge s p st) }

@@ -2,14 +2,14 @@
 -- OwnLaws.antt and KnownLaws.antt. `inRange` is test 15.
 use Prim.Native.Nat.{ℕ, zero, suc, _+_, _*_, _≤_, _<_}
 use mathlib.Core.Path.{_≡_}
-use mathlib.Core.Bool.{Bool, true, false, _||_, cond}
+use mathlib.Core.Bool.{Bool, true, false, _||_}
 use mathlib.Core.List.{List, [], _∷_}
 use mathlib.Core.Option.{Option}
 use lib.Dec.{eqb, leb, ltb}
 use lib.Ieee.{Float}
 use Rattle.scene.specs.Solve.{Scene, Parameters, inRange, unknowns, rowsOf, solveWith}
 use Rattle.closeness.specs.HowClosely.{AllSmall, HowClosely, roundsOf}
-use Rattle.portions.specs.Portions.{Running, isRunning, runOf, finished, rowCount, afterRound, within, beginRetry, endRun, judge, oneMore, go, start, inverseWeights, begin, on, answerAt}
+use Rattle.portions.specs.Portions.{Running, isRunning, runOf, finished, rowCount, afterRound, within, beginRetry, endRun, judge, oneMore, go, roundsMade, start, inverseWeights, begin, on, answerAt}
 
 -- by this set the run that goes on has not ended
 abbrev pub Settled : Scene → Parameters → Running → Type 0
@@ -157,22 +157,18 @@ unfoldable pub more : Scene → Parameters → List Float → ℕ → Running �
 more s p winv zero st = st
 more s p winv (suc k) st = more s p winv k (oneMore s p winv st)
 
--- how many rounds a portion of k makes
-unfoldable pub roundsMade : Scene → Parameters → List Float → ℕ → Running → ℕ
-roundsMade s p winv zero st = 0
-roundsMade s p winv (suc k) st = cond (isRunning (st .run)) (suc (roundsMade s p winv k (oneMore s p winv st))) 0
-
--- a portion of k rounds leads from one state to another by just the rounds that it makes, and these are at most k
-pub record FewRounds (s : Scene) (p : Parameters) (winv : List Float) (k : ℕ) (from to : Running) : Type 0 where
-  pub made : to ≡ more s p winv (roundsMade s p winv k from) from
+-- A portion of k rounds leads from one state to another by just the rounds that it makes. These are at most k, and exactly k where the state that is reached still runs.
+pub record PortionMade (s : Scene) (p : Parameters) (winv : List Float) (k : ℕ) (from to : Running) : Type 0 where
+  pub led : to ≡ more s p winv (roundsMade s p winv k from) from
   pub few : roundsMade s p winv k from ≤ k
+  pub all : isRunning (to .run) ≡ true → roundsMade s p winv k from ≡ k
 
-pub record FewByCall (s : Scene) (p : Parameters) (drag : Option ℕ) (k : ℕ) : Type 0 where
-  pub of-begin : FewRounds s p (inverseWeights s p drag) k (start s p) (begin s p drag k)
-  pub of-on : (st : Running) → FewRounds s p (inverseWeights s p drag) k (judge s p st) (on s p drag k st)
+pub record MadeByCall (s : Scene) (p : Parameters) (drag : Option ℕ) (k : ℕ) : Type 0 where
+  pub of-begin : PortionMade s p (inverseWeights s p drag) k (start s p) (begin s p drag k)
+  pub of-on : (st : Running) → PortionMade s p (inverseWeights s p drag) k (judge s p st) (on s p drag k st)
 
-abbrev pub AtMostThePortion : Type 0
-AtMostThePortion = (s : Scene) (p : Parameters) (drag : Option ℕ) (k : ℕ) → FewByCall s p drag k
+abbrev pub MakesThePortion : Type 0
+MakesThePortion = (s : Scene) (p : Parameters) (drag : Option ℕ) (k : ℕ) → MadeByCall s p drag k
 
 -- demand 3 for any unknowns
 abbrev pub CloselyAt : Type 0

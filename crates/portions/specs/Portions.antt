@@ -96,6 +96,11 @@ module _ (s : Scene) (p : Parameters) where
     go zero st = st
     go (suc k) st = cond (isRunning (st .run)) (go k (oneMore st)) st
 
+    -- how many rounds these are
+    unfoldable pub roundsMade : ℕ → Running → ℕ
+    roundsMade zero st = 0
+    roundsMade (suc k) st = cond (isRunning (st .run)) (suc (roundsMade k (oneMore st))) 0
+
   -- the first run, about to begin with all unknowns 0
   abbrev pub start : Running
   start = let zeros = listOf startAt (unknowns s) in let st = fresh s 1 zeros zeros in judged noRound st
@@ -110,6 +115,13 @@ module _ (s : Scene) (p : Parameters) where
 
     unfoldable pub on : ℕ → Running → Running
     on k st = go inverseWeights k (judge st)
+
+    -- how many rounds each of them makes
+    abbrev pub beginMade : ℕ → ℕ
+    beginMade k = roundsMade inverseWeights k start
+
+    abbrev pub onMade : ℕ → Running → ℕ
+    onMade k st = roundsMade inverseWeights k (judge st)
 
   -- the answer of `solve` for the unknowns x; its flag is that of the call's tolerance and the errors
   unfoldable pub answerAt : List Float → Solution

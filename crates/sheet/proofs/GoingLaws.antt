@@ -16,10 +16,10 @@ use Rattle.scene.specs.declared.scene.Scene.{Scene as SceneStruct}
 use Rattle.rounds.specs.Parts.{need}
 use Rattle.placement.specs.Answer.{framesDoubles}
 use Rattle.closeness.proofs.HowCloselyLaws.{rounds-end}
-use Rattle.portions.specs.Portions.{Running, runOf, begin, on}
+use Rattle.portions.specs.Portions.{Running, runOf, begin, on, beginMade, onMade}
 use Rattle.portions.specs.Laws.{Known}
 use Rattle.portions.specs.Laws.Own.{begun, gone}
-use Rattle.portions.proofs.PortionLaws.{at-most-the-portion, portions, judges-to-the-end, finished-stays}
+use Rattle.portions.proofs.PortionLaws.{makes-the-portion, portions, judges-to-the-end, finished-stays}
 use Rattle.portions.proofs.FinishLaws.{finishes, closely-at}
 use Rattle.portions.proofs.KnownLaws.{known-runs, run-known}
 use Rattle.by_rounds.specs.State.{stateSize, heldIn, stateDoubles}
@@ -76,12 +76,13 @@ module _ (s : List ℕ) (c : SceneStruct) (made : Made s c) (p : Parameters) (st
 -- ---- what is left
 
 module _ (s : List ℕ) (p : Parameters) (c : SceneStruct) (made : Made s c) (state state' scratch scratch' poses poses' frames frames' errors errors' : List Float) (done done' run run' flag flag' : ℕ) (e : ReachedStruct) where
-  left-by : (a st : Running) → AcceptedByRounds s p (length state) (length scratch) (length poses) (length frames) (length errors)
-      → Left (sceneOf s c) p c a state state' poses poses' frames frames' errors errors' e → a ≡ st → Known st → length scratch' ≡ length scratch → done' ≡ e .done → run' ≡ e .run
+  left-by : (a st : Running) (count : ℕ) → AcceptedByRounds s p (length state) (length scratch) (length poses) (length frames) (length errors)
+      → Left (sceneOf s c) p c a count state state' poses poses' frames frames' errors errors' e → a ≡ st → Known st → length scratch' ≡ length scratch → done' ≡ e .done → run' ≡ e .run
       → flag' ≡ flagNumber (e .converged) → LeftBy s p st 0 done done' run run' state state' scratch scratch' poses poses' frames frames' errors errors' flag flag'
-  left-by a st acc l h known size de re fe =
-      let w : Left (sceneAt s) p c st state state' poses poses' frames frames' errors errors' e
-      = subst (λ (sc : Scene). Left sc p c st state state' poses poses' frames frames' errors errors' e) (scene-is s c made) (left-as (sceneOf s c) p c a st state state' poses poses' frames frames' errors errors' e l h) in
+  left-by a st count acc l h known size de re fe =
+      let w : Left (sceneAt s) p c st count state state' poses poses' frames frames' errors errors' e
+      = subst (λ (sc : Scene). Left sc p c st count state state' poses poses' frames frames' errors errors' e) (scene-is s c made)
+      (left-as (sceneOf s c) p c a st count count state state' poses poses' frames frames' errors errors' e l h refl) in
       let n = unknown-count s c made in
       let r = row-count s c made in
       let runs : runOf run' ≡ st .run = ap (λ (k : ℕ). runOf k) (re ∙ w .run-is) ∙ known in
@@ -128,7 +129,7 @@ module _ (s : List ℕ) (p : Parameters) (drag portion : ℕ) (state scratch pos
 
   module _ (state' scratch' poses' frames' errors' : List Float) (n' rows' done' run' flag' : ℕ) (c : SceneStruct) (place : Option ℕ) (e : ReachedStruct) where
     pub begin-answered : (f : ℕ) → f ≡ begin-number → f ≡ 0 → Made s c → place ≡ dragOf drag → length scratch' ≡ length scratch
-        → Left (sceneOf s c) p c (begin (sceneOf s c) p place portion) state state' poses poses' frames frames' errors errors' e
+        → Left (sceneOf s c) p c (begin (sceneOf s c) p place portion) (beginMade (sceneOf s c) p place portion) state state' poses poses' frames frames' errors errors' e
         → n' ≡ c .n → rows' ≡ c .rows → done' ≡ e .done → run' ≡ e .run → flag' ≡ flagNumber (e .converged)
         → BeginAnswer s p drag portion 0 n n' rows rows' done done' run run' state state' scratch scratch' poses poses' frames frames' errors errors' flag flag'
     begin-answered f fe z made d size l ne re de rune fle =
@@ -139,13 +140,13 @@ module _ (s : List ℕ) (p : Parameters) (drag portion : ℕ) (state scratch pos
           unknowns-are = ne ∙ unknown-count s c made;
           rows-are = re ∙ row-count s c made;
           left =
-              left-by s p c made state state' scratch scratch' poses poses' frames frames' errors errors' done done' run run' flag flag' e _ _ a l h
+              left-by s p c made state state' scratch scratch' poses poses' frames frames' errors errors' done done' run run' flag flag' e _ _ _ a l h
               (known-runs (sceneAt s) p (dragOf drag) portion .of-begin)
               size
               de
               rune
               fle;
-          few-rounds = at-most-the-portion (sceneAt s) p (dragOf drag) portion .of-begin;
+          portion-made = makes-the-portion (sceneAt s) p (dragOf drag) portion .of-begin;
           rounds = rounds-end (sceneAt s) p (dragOf drag);
           judged = λ q. judges-to-the-end (sceneAt s) p (dragOf drag) (a .range) portion .of-begin;
           solves = λ q k. finishes (sceneAt s) p (dragOf drag) (a .range) portion k;
@@ -161,7 +162,7 @@ module _ (s : List ℕ) (p : Parameters) (drag portion : ℕ) (state scratch pos
         unknowns-are = rw t;
         rows-are = rw t;
         left = left-none s p _ r state scratch poses frames errors done run flag ne;
-        few-rounds = at-most-the-portion (sceneAt s) p (dragOf drag) portion .of-begin;
+        portion-made = makes-the-portion (sceneAt s) p (dragOf drag) portion .of-begin;
         rounds = rounds-end (sceneAt s) p (dragOf drag);
         judged = λ q. absurd (ne q);
         solves = λ q. absurd (ne q);
@@ -176,7 +177,8 @@ module _ (s : List ℕ) (p : Parameters) (drag portion n rows : ℕ) (state scra
 
   module _ (state' scratch' poses' frames' errors' : List Float) (done' run' flag' : ℕ) (c : SceneStruct) (place : Option ℕ) (e : ReachedStruct) where
     pub on-answered : (f : ℕ) → f ≡ on-number → f ≡ 0 → Made s c → place ≡ dragOf drag → length scratch' ≡ length scratch
-        → Left (sceneOf s c) p c (on (sceneOf s c) p place portion (heldIn (c .n) (c .rows) done run state)) state state' poses poses' frames frames' errors errors' e
+        → Left (sceneOf s c) p c (on (sceneOf s c) p place portion (heldIn (c .n) (c .rows) done run state)) (onMade (sceneOf s c) p place portion (heldIn (c .n) (c .rows) done run state))
+        state state' poses poses' frames frames' errors errors' e
         → done' ≡ e .done → run' ≡ e .run → flag' ≡ flagNumber (e .converged)
         → OnAnswer s p drag portion 0 n rows done done' run run' state state' scratch scratch' poses poses' frames frames' errors errors' flag flag'
     on-answered f fe z made d size l de rune fle =
@@ -186,13 +188,13 @@ module _ (s : List ℕ) (p : Parameters) (drag portion n rows : ℕ) (state scra
         record {
           number = sym z ∙ fe;
           left =
-              left-by s p c made state state' scratch scratch' poses poses' frames frames' errors errors' done done' run run' flag flag' e _ _ a l h
+              left-by s p c made state state' scratch scratch' poses poses' frames frames' errors errors' done done' run run' flag flag' e _ _ _ a l h
               (known-runs (sceneAt s) p (dragOf drag) portion .of-on (stateOf s done run state) (run-known run))
               size
               de
               rune
               fle;
-          few-rounds = at-most-the-portion (sceneAt s) p (dragOf drag) portion .of-on (stateOf s done run state);
+          portion-made = makes-the-portion (sceneAt s) p (dragOf drag) portion .of-on (stateOf s done run state);
           rounds = rounds-end (sceneAt s) p (dragOf drag);
           judged = λ q. judges-to-the-end (sceneAt s) p (dragOf drag) (a .range) portion .of-on (stateOf s done run state);
           stays = finished-stays (sceneAt s) p (dragOf drag) portion (stateOf s done run state);
@@ -206,7 +208,7 @@ module _ (s : List ℕ) (p : Parameters) (drag portion n rows : ℕ) (state scra
       record {
         number = e;
         left = left-none s p _ r state scratch poses frames errors done run flag ne;
-        few-rounds = at-most-the-portion (sceneAt s) p (dragOf drag) portion .of-on (stateOf s done run state);
+        portion-made = makes-the-portion (sceneAt s) p (dragOf drag) portion .of-on (stateOf s done run state);
         rounds = rounds-end (sceneAt s) p (dragOf drag);
         judged = λ q. absurd (ne q);
         stays = finished-stays (sceneAt s) p (dragOf drag) portion (stateOf s done run state);

@@ -28,7 +28,7 @@ put-reached-requires c κs =
     let went = c .before .before .before .before .before .before .before in
     let arranged = went .before .before in
     let o = arranged .before .before .before .before .before .before .before in
-    (o .pre .0, (arranged-same (went .begin .ensures .size) (placed arranged), o .pre .1 .1 .1))
+    (o .pre .0, (arranged-same (went .begin .ensures .stands .size) (placed arranged), o .pre .1 .1 .1))
 
 same-length : tie.Need-same-length
 same-length c = search needs
@@ -50,7 +50,9 @@ returns c =
     let last = c .before .before .before .before .before .before .before .before .before .before in
     let went = last .before .before .before .before .before .before .before .before in
     let g = went .before .before .before .before .before .before .before .before .before .args in
-    left-as (sceneOf (g .sheet .now) (g .scene)) (parametersOf (g .q)) (g .scene) _ _ _ _ _ _ _ _ _ _ _ (last .put-reached .ensures) (went .begin .ensures .running)
+    left-as (sceneOf (g .sheet .now) (g .scene)) (parametersOf (g .q)) (g .scene) _ _ _ _ _ _ _ _ _ _ _ _ _ (last .put-reached .ensures)
+    (went .begin .ensures .stands .running)
+    (went .begin .ensures .made-is)
 
 pub solve-begin-spec : {M : Type 1} → statement M
 solve-begin-spec =

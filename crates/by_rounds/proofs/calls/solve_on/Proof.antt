@@ -5,7 +5,7 @@ use Rattle.relations.specs.Model.{bodyNumber}
 use lib.ListN.{length}
 use Rattle.rounds.specs.Parts.{Arranged}
 use Rattle.rounds.proofs.RoundLaws.{arranged-as, arranged-same}
-use Rattle.portions.specs.Portions.{on}
+use Rattle.portions.specs.Portions.{on, onMade}
 use Rattle.by_rounds.proofs.HeldLaws.{left-as}
 use borrow.Author.Needs.{needs}
 use Rattle.by_rounds.proofs.calls.solve_on.Statement.{statement}
@@ -40,7 +40,7 @@ put-reached-requires c κs =
     let taken = went .before .before .before .before in
     let arranged = taken .before .before .before in
     let o = arranged .before .before .before .before .before .before .before in
-    (o .pre .0, (arranged-same (went .on .ensures .size ∙ taken .take-held .ensures .size) (placed arranged), o .pre .1 .1 .1))
+    (o .pre .0, (arranged-same (went .on .ensures .stands .size ∙ taken .take-held .ensures .size) (placed arranged), o .pre .1 .1 .1))
 
 same-length : tie.Need-same-length
 same-length c = search needs
@@ -64,8 +64,12 @@ returns c =
     let taken = went .before .before .before .before in
     let g = taken .before .before .before .before .before .before .before .before .before .before .args in
     let sc = sceneOf (g .sheet .now) (g .scene) in
-    left-as sc (parametersOf (g .q)) (g .scene) _ _ _ _ _ _ _ _ _ _ _ (last .put-reached .ensures)
-    (went .on .ensures .running ∙ ap (on sc (parametersOf (g .q)) (bodyNumber (g .drag)) (g .portion)) (taken .take-held .ensures .running))
+    let q = parametersOf (g .q) in
+    let drag = bodyNumber (g .drag) in
+    let held = taken .take-held .ensures .running in
+    left-as sc q (g .scene) _ _ _ _ _ _ _ _ _ _ _ _ _ (last .put-reached .ensures)
+    (went .on .ensures .stands .running ∙ ap (on sc q drag (g .portion)) held)
+    (went .on .ensures .made-is ∙ ap (onMade sc q drag (g .portion)) held)
 
 pub solve-on-spec : {M : Type 1} → statement M
 solve-on-spec =

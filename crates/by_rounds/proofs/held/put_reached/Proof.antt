@@ -12,11 +12,11 @@ put-held-requires c κs = search needs
 
 put-answer-requires : tie.Need-put-answer-requires
 put-answer-requires c κs =
-    let o = c .before .before .before .before .before .before .before .before .before .before .before .before .before .before .before in
+    let o = c .before .before .before .before .before .before .before .before .before .before .before .before .before .before .before .before in
     (o .pre .0, (o .pre .1 .0, (o .pre .1 .1 .poses-long, (o .pre .1 .1 .frames-long, o .pre .1 .1 .errors-long))))
 
 all-within-requires : tie.Need-all-within-requires
-all-within-requires c κs = omega (arith, c .before .before .errors .given, c .before .before .before .before .before .before .before .before .before .before .before .before .before .before .before .before .before .before .before .before .before .before .before .before .before .pre .1 .1 .errors-long)
+all-within-requires c κs = omega (arith, c .before .before .errors .given, c .before .before .before .before .before .before .before .before .before .before .before .before .before .before .before .before .before .before .before .before .before .before .before .before .before .before .pre .1 .1 .errors-long)
 
 same-length : tie.Need-same-length
 same-length c = search needs
@@ -37,9 +37,9 @@ returns : tie.Need-returns
 returns c =
     let answer = c .before .before .before .before .before .before .before .before .before .before in
     let state = answer .before .before .before .before .before .before .before in
-    let o = state .before .before .before .before .before .before .before .before .before in
+    let o = state .before .before .before .before .before .before .before .before .before .before in
     let g = o .args in
-    left-is (g .sheet .now) (g .scene) (g .p) (parametersOf (g .q)) (g .s .now) (g .g) _ _ _ _ _ _ _ _ _ (state .put-held .ensures) (answer .put-answer .ensures) (c .all-within .ensures)
+    left-is (g .sheet .now) (g .scene) (g .p) (parametersOf (g .q)) (g .s .now) (g .h) _ _ _ _ _ _ _ _ _ (state .put-held .ensures) (answer .put-answer .ensures) (c .all-within .ensures)
 
 pub put-reached-spec : {M : Type 1} → statement M
 put-reached-spec =

@@ -80,7 +80,7 @@ go-requires c κs =
     (o .pre .0, (arranged-same (started judged .size) (o .pre .1 .0), (o .pre .1 .1 .0, (range, (ready-settled (sceneOf (g .sheet .now) (g .scene)) (g .scene) (g .p) (parametersOf (g .q)) (g .s .now) _ _ _ _ (started judged) (start-settled (sceneOf (g .sheet .now) (g .scene)) (parametersOf (g .q)) (counts (parametersOf (g .q)) range)), ap allFinite (started judged .weights) ∙ weights-finite (sceneOf (g .sheet .now) (g .scene)) (parametersOf (g .q)) (bodyNumber (g .drag)))))))
 
 same-length : tie.Need-same-length
-same-length c = let last = c .before .before in last .go .ensures .size ∙ started (last .before .before .before .before) .size
+same-length c = let last = c .before .before in last .go .ensures .went .size ∙ started (last .before .before .before .before) .size
 
 returns : tie.Need-returns
 returns c =
