@@ -26,7 +26,7 @@ pub record Went (c : SceneStruct) (p : PartsStruct) (s t : List Float) (g : Goin
   pub weights : weightsIn c p t ≡ weightsIn c p s
   pub size : length t ≡ length s
 
--- the running state is st, whatever stood in the scratch s
+-- the running state is st, whatever stood in the scratch s; what else is left in the scratch is open
 pub record Stands (c : SceneStruct) (p : PartsStruct) (s t : List Float) (g : GoingStruct) (st : Running) : Type 0 where
   pub running : runningIn c p t g ≡ st
   pub size : length t ≡ length s

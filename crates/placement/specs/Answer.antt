@@ -31,7 +31,7 @@ pub record Worst (sc : Scene) (c : SceneStruct) (p : PartsStruct) (s t : List Fl
   pub size : length t ≡ length s
   pub below : take (p .ahead) t ≡ take (p .ahead) s
 
--- whether the retry at `x` is to be kept, whose first run ended unconverged at `first`; below `ahead` nothing has changed
+-- whether the retry at `x` is to be kept, whose first run ended unconverged at `first`; below `ahead` nothing has changed, and what is left from there on is open
 pub record Better (sc : Scene) (c : SceneStruct) (p : PartsStruct) (s t : List Float) (converged ok : Bool) : Type 0 where
   pub told : ok ≡ (converged || lt (maxAbs (rowsOf sc (part s (p .x) (c .n)))) (maxAbs (rowsOf sc (part s (p .first) (c .n)))))
   pub size : length t ≡ length s
