@@ -7,7 +7,7 @@ use native.Mathlib.Omega.{arith}
 use native.Mathlib.Numerals.{add-one}
 use native.Mathlib.Nat.{min-le-left}
 use lib.ListN.{length, getD, take, drop, length-take, drop-of-length-le, List·getD-eq-default}
-use lib.Seq.{getD-take, getD-drop}
+use lib.Seq.{getD-take, getD-drop, take-at}
 use lib.Dec.{T, leb, ltb}
 use lib.Ieee.{Float, nan, binary64, fits}
 use borrow.Author.Tests.{leb-true, ltb-true, ltb-false, ne-eqb}
@@ -17,8 +17,10 @@ use Rattle.format.proofs.RefusalLaws.{none-of, and-left, and-right, first, late
 use Rattle.writing.specs.Bytes.{part, Put}
 use Rattle.writing.specs.Writing.{AllBytes, AllWords, AllDoubles, SceneIs, OneSheet, sheetBytes, bodyPartsFault, relPartsFault, firstFault, countsFault, recordsFault, roomFault}
 use Rattle.writing.proofs.NumberLaws.{part-length}
-use Rattle.writing.proofs.SheetLaws.{counts-pass}
+use Rattle.writing.specs.Structs.{SolverReads}
+use Rattle.writing.proofs.SheetLaws.{counts-pass, sheet-length}
 use Rattle.writing.proofs.OneSheetLaws.{one-sheet}
+use Rattle.writing.proofs.StructLaws.{solver-reads}
 use Rattle.writing.specs.Lent.{lentBody, lentRel, lentScene, lentFault, lentSceneFault, writeFault, WriteAnswer}
 
 -- ---- a part of what is lent
@@ -127,18 +129,24 @@ module _ (m k : ℕ) (bytes words : List ℕ) (numbers : List Float) where
 
   -- a call that is accepted
   pub record Accepted (room : ℕ) : Type 0 where
+    pub counts : countsFault m k ≡ 0
+    pub lent : lentFault m k (length bytes) (length words) (length numbers) ≡ 0
+    pub records : recordsFault (lentScene m k bytes words numbers) ≡ 0
     pub bodies : m ≤ 64
     pub relations : k ≤ 128
     pub whole : Whole m k (length bytes) (length words) (length numbers)
     pub room-is : relStart m k ≤ room
 
-  pub accepted : (room : ℕ) → writeFault m k bytes words numbers room ≡ 0 → Accepted room
+  pub accepted : (room n : ℕ) → n ≡ writeFault m k bytes words numbers room → n ≡ 0 → Accepted room
   unfolding writeFault lentSceneFault
-  accepted room e =
-      let p = none-of (countsFault m k) _ e in
+  accepted room n e z =
+      let p = none-of (countsFault m k) _ (sym e ∙ z) in
       let q = none-of (lentSceneFault m k bytes words numbers) (roomFault m k room) (p .1) in
       let r = none-of (lentFault m k (length bytes) (length words) (length numbers)) (recordsFault (lentScene m k bytes words numbers)) (q .0) in
       record {
+        counts = p .0;
+        lent = r .0;
+        records = r .1;
         bodies = counts-pass m k (p .0) .0;
         relations = counts-pass m k (p .0) .1;
         whole = lent-whole m k _ _ _ (r .0);
@@ -151,6 +159,14 @@ module _ (m k : ℕ) (bytes words : List ℕ) (numbers : List Float) where
     once : countsFault m k ≡ 0 → lentFault m k (length bytes) (length words) (length numbers) ≡ 0 → OneSheet (lentScene m k bytes words numbers)
     once p q = one-sheet (lentScene m k bytes words numbers) (lent-is m k bytes words numbers b w x (lent-whole m k _ _ _ q)) p
 
+    -- the bytes of the scene's sheet, whatever stands behind them
+    in-place : (sheet rest : List ℕ) → sheet ≡ sheetBytes (lentScene m k bytes words numbers) ++ rest → (room : ℕ)
+        → Accepted room → SolverReads (lentScene m k bytes words numbers) (take (relStart m k) sheet)
+    in-place sheet rest e room a =
+        let sc = lentScene m k bytes words numbers in
+        let there = once (a .counts) (a .lent) .there (a .records) in
+        rw (e, take-at (sheetBytes sc) rest (relStart m k) (sheet-length sc)) (solver-reads sc (sheetBytes sc) there)
+
     pub written : (sheet sheet' : List ℕ) (n q : ℕ) → n ≡ writeFault m k bytes words numbers (length sheet) → n ≡ 0 → q ≡ relStart m k
         → Put sheet sheet' 0 q (sheetBytes (lentScene m k bytes words numbers)) → WriteAnswer m k bytes words numbers 0 sheet sheet'
     written sheet sheet' n q p z e put =
@@ -158,6 +174,7 @@ module _ (m k : ℕ) (bytes words : List ℕ) (numbers : List Float) where
           number = sym z ∙ p;
           sheet-is = put .text ∙ ap (λ (o : ℕ). sheetBytes (lentScene m k bytes words numbers) ++ drop o sheet) e;
           one-sheet = once;
+          solver-reads = λ o. in-place sheet' (drop q sheet) (put .text) (length sheet) (accepted (length sheet) n p z);
         }
 
     pub refused : (sheet : List ℕ) (n : ℕ) → n ≡ writeFault m k bytes words numbers (length sheet) → (n ≡ 0 → ⊥) → WriteAnswer m k bytes words numbers n sheet sheet
@@ -166,4 +183,5 @@ module _ (m k : ℕ) (bytes words : List ℕ) (numbers : List Float) where
           number = p;
           sheet-is = sym (ap (λ (t : Bool). cond t (sheetBytes (lentScene m k bytes words numbers) ++ drop (relStart m k) sheet) sheet) (ne-eqb n 0 ne));
           one-sheet = once;
+          solver-reads = λ z. absurd (ne z);
         }

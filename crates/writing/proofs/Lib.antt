@@ -4,4 +4,5 @@ pub mod RecordLaws
 pub mod LocalLaws
 pub mod SheetLaws
 pub mod OneSheetLaws
+pub mod StructLaws
 pub mod LentLaws

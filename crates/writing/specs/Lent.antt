@@ -3,13 +3,14 @@ use Prim.Native.Nat.{ℕ, _+_, _*_}
 use mathlib.Core.Path.{_≡_}
 use mathlib.Core.Bool.{_&&_, cond}
 use mathlib.Core.List.{List, _++_}
-use lib.ListN.{length, drop}
+use lib.ListN.{length, take, drop}
 use lib.Dec.{eqb, leb}
 use lib.Ieee.{Float}
 use Rattle.format.specs.Format.{relStart}
 use Rattle.format.specs.Faults.{orElse, unless}
 use Rattle.writing.specs.Bytes.{part}
 use Rattle.writing.specs.Writing.{BodyParts, RelParts, SceneParts, sheetBytes, countsFault, recordsFault, roomFault, OneSheet}
+use Rattle.writing.specs.Structs.{SolverReads}
 
 -- 2 bytes a body, then 9 a relation; 5 words a relation; 16 numbers a body, then 29 a relation
 abbrev pub lentBody : List ℕ → List Float → ℕ → BodyParts
@@ -41,3 +42,6 @@ pub record WriteAnswer (m k : ℕ) (bytes words : List ℕ) (numbers : List Floa
   pub sheet-is : sheet' ≡ cond (eqb r 0) (sheetBytes (lentScene m k bytes words numbers) ++ drop (relStart m k) sheet) sheet
   -- of a scene that is whole and within the counts: both round trips
   pub one-sheet : countsFault m k ≡ 0 → lentFault m k (length bytes) (length words) (length numbers) ≡ 0 → OneSheet (lentScene m k bytes words numbers)
+  -- where the call is accepted: the bytes written are a sheet that the solver reads as the bodies and relations made of
+  -- what is lent
+  pub solver-reads : r ≡ 0 → SolverReads (lentScene m k bytes words numbers) (take (relStart m k) sheet')

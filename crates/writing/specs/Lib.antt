@@ -1,3 +1,4 @@
 pub mod Bytes
 pub mod Writing
+pub mod Structs
 pub mod Lent

@@ -1,5 +1,4 @@
 -- `writing::write::write` answers as `WriteAnswer` says: what `write_fault` refuses leaves the sheet as it was (`refused`); what it lets through is whole and has room (`accepted`), and `put_sheet` puts the scene's sheet (`written`). Assumes nothing.
-use mathlib.Core.Path.{sym, _∙_}
 use native.Mathlib.Omega.{arith}
 use Rattle.writing.specs.Writing.{AllBytes, AllWords, AllDoubles}
 use Rattle.writing.proofs.LentLaws.{accepted, written, refused}
@@ -26,7 +25,7 @@ write-fault-requires c κs = search needs
 put-sheet-requires : tie.Need-put-sheet-requires
 put-sheet-requires c κs =
     let passed = c .before in
-    let a = accepted _ _ _ _ _ _ (sym (passed .before .write-fault .ensures) ∙ passed .if1 .taken) in
+    let a = accepted _ _ _ _ _ _ _ (passed .before .write-fault .ensures) (passed .if1 .taken) in
     let w = a .whole in
     (a .bodies, (a .relations, (w .bytes, (w .words, (w .numbers, a .room-is)))))
 
