@@ -1,86 +1,28 @@
 -- From parts to structs: a body or relation that a sheet holds in the parts of a struct is read as that struct. Reading goes by way of the parts: what the solver reads is a
 -- function of the record's bytes, words and doubles, and that function takes a struct's parts back to the struct. Assumes nothing.
-use mathlib.Core.Path.{_≡_, refl, ap, _∙_}
+use mathlib.Core.Path.{_≡_, refl, sym, ap, _∙_}
 use mathlib.Core.Bool.{Bool, true, false, not, _||_, cond}
 use mathlib.Core.List.{List, [], _∷_}
 use mathlib.Core.Option.{Option, none, some}
 use Prim.Native.Nat.{ℕ, _+_, _≤_}
-use native.Mathlib.Nat.{add-assoc, add-zero}
+use native.Mathlib.Nat.{add-assoc}
 use native.Mathlib.Omega.{arith}
 use lib.ListN.{getD}
-use borrow.Author.Tests.{ltb-true, ne-eqb}
+use borrow.Author.Tests.{ltb-true, ltb-false, ne-eqb, le-ltb}
 use lib.Dec.{eqb, ltb}
-use lib.Ieee.{Float, nan}
-use Rattle.vectors.specs.Vec.{Vec}
+use lib.Ieee.{Float}
 use Rattle.relations.specs.Geometry.{Geo, plane, line, point, circle, pointOf}
 use Rattle.relations.specs.Model.{Body, End, Law, mate, flush, angle, insert, tangent, symmetry, joint, gear, Rel}
 use Rattle.relations.specs.declared.model.JointKind.{JointKind}
 use Rattle.relations.specs.declared.model.JointKind.the-variants.{Rigid, Revolute, Slider, Cylindrical, Planar, Ball}
 use Rattle.records.specs.Numbers.{GROUND, lawNumber, jointNumber, primNumber, flagNumber, bodyRefNumber, byNumber}
-use Rattle.records.specs.Record.{byteAt, u16At, flagAt, usesThird, primAt, jointKindAt, bodyNumberAt, bodyAt, endAt, lawBy, relAt}
+use Rattle.records.specs.Record.{byteAt, u16At, usesThird, primAt, jointKindAt, bodyNumberAt, bodyAt, relAt}
 use Rattle.format.specs.Faults.{endNames, relNames, relFault}
 use Rattle.format.proofs.RefusalLaws.{and-left, and-right, rel-named}
-use Rattle.writing.specs.Writing.{BodyParts, RelParts, doublesAt, bodyPartsAt, relPartsAt}
-use Rattle.saving.specs.Saving.{bodyParts, relParts, NO-BODY, bodyWord, directionField, radiusField, endNumbers, thirdField}
-
--- ---- structs from parts
-
--- three doubles from place i on
-abbrev vecFrom : List Float → ℕ → Vec Float
-vecFrom xs i = record { x = getD xs i nan; y = getD xs (i + 1) nan; z = getD xs (i + 2) nan }
-
-bodyFrom : BodyParts → Body
-bodyFrom p =
-    let xs = p .numbers in
-    record {
-      frame = record { origin = vecFrom xs 0; x = vecFrom xs 3; y = vecFrom xs 6; z = vecFrom xs 9 };
-      fixed = flagAt (p .bytes) 0;
-      center = vecFrom xs 12;
-      size = getD xs 15 nan;
-    }
-
--- an end, by its bytes from place b on, its body's word at w and its doubles from place x on
-endFrom : RelParts → ℕ → ℕ → ℕ → End
-endFrom p b w x =
-    let xs = p .numbers in
-    record {
-      body = bodyNumberAt (getD (p .words) w 0);
-      prim = primAt (byteAt (p .bytes) b) (vecFrom xs x) (vecFrom xs (x + 3)) (getD xs (x + 6) nan);
-      radius = getD xs (x + 7) nan;
-      mirrored = flagAt (p .bytes) (b + 1);
-    }
-
-lawFrom : ℕ → RelParts → Law
-unfolding endFrom
-lawFrom n p =
-    let off = getD (p .numbers) 0 nan in
-    let want = getD (p .numbers) 1 nan in
-    let flag = flagAt (p .bytes) 2 in
-    let third = endFrom p 7 4 21 in
-    byNumber lawNumber n
-    (mate off
-    ∷ flush off
-    ∷ angle want (vecFrom (p .numbers) 2)
-    ∷ insert off flag
-    ∷ tangent off flag
-    ∷ symmetry third
-    ∷ joint (jointKindAt (byteAt (p .bytes) 1)) flag off want
-    ∷ [])
-    (gear (getD (p .words) 0 0) (getD (p .words) 1 0) want third)
-
-relFrom : RelParts → Rel
-unfolding endFrom lawFrom
-relFrom p = record { law = lawFrom (byteAt (p .bytes) 0) p; a = endFrom p 3 2 5; b = endFrom p 5 3 13 }
-
--- ---- what is read is made from the parts
-
-body-from : (s : List ℕ) (o : ℕ) → bodyAt s o ≡ bodyFrom (bodyPartsAt s o)
-unfolding bodyAt bodyFrom bodyPartsAt doublesAt
-body-from s o = simp (add-assoc, add-zero)
-
-rel-from : (s : List ℕ) (r : ℕ) → relAt s r ≡ relFrom (relPartsAt s r)
-unfolding relAt lawBy endAt relFrom relPartsAt doublesAt
-rel-from s r = simp (add-assoc, add-zero)
+use Rattle.writing.specs.Writing.{bodyPartsAt, relPartsAt}
+use Rattle.writing.specs.Structs.{bodyFrom, endFrom, lawFrom, relFrom}
+use Rattle.writing.proofs.StructLaws.{body-from, rel-from}
+use Rattle.saving.specs.Saving.{bodyParts, relParts, NO-BODY, bodyWord, directionField, radiusField, endNumbers, thirdField, WordNames}
 
 -- ---- each field of a struct, from its part
 
@@ -115,16 +57,27 @@ body-read s o b h = body-from s o ∙ ap bodyFrom h ∙ from-body b
 
 -- ---- relations
 
--- a word that names one of m bodies or the ground, as test 6 asks, is its body's number
-word-read : (m : ℕ) (b : Option ℕ) → m ≤ 64 → eqb (bodyWord b) GROUND || ltb (bodyWord b) m ≡ true → bodyNumberAt (bodyWord b) ≡ b
+-- a body's number, tested before it is cut: below 65534 it is its own word, and from there on its word is one that no
+-- scene of 64 bodies has
+pub word-names : (m : ℕ) (b : Option ℕ) → m ≤ 64 → WordNames m b
 unfolding bodyNumberAt byNumber
-word-read m none h n = refl
-word-read m (some i) h n = go (ltb i NO-BODY) refl n
+word-names m none h = record { passes = refl; read = λ n. refl }
+word-names m (some i) h = go (ltb i NO-BODY) refl
   where
-    go : (t : Bool) → ltb i NO-BODY ≡ t → eqb (cond t i NO-BODY) GROUND || ltb (cond t i NO-BODY) m ≡ true
-        → byNumber bodyRefNumber (cond t i NO-BODY) (none ∷ []) (some (cond t i NO-BODY)) ≡ some i
-    go true e k = rw (ne-eqb i GROUND (λ q. omega (arith, ltb-true i NO-BODY e)))
-    go false e k = absurd (omega (arith, ltb-true NO-BODY m k))
+    word : Bool → ℕ
+    word t = cond t i NO-BODY
+
+    passes : (t : Bool) → ltb i NO-BODY ≡ t → eqb (word t) GROUND || ltb (word t) m ≡ ltb i m
+    passes true e = rw (ne-eqb i GROUND (λ q. omega (arith, ltb-true i NO-BODY e)))
+    passes false e = rw (le-ltb NO-BODY m (omega arith), le-ltb i m (omega (arith, ltb-false i NO-BODY e)))
+
+    read : (t : Bool) → ltb i NO-BODY ≡ t → ltb i m ≡ true
+        → byNumber bodyRefNumber (word t) (none ∷ []) (some (word t)) ≡ some i
+    read true e n = rw (ne-eqb i GROUND (λ q. omega (arith, ltb-true i NO-BODY e)))
+    read false e n = absurd (omega (arith, ltb-false i NO-BODY e, ltb-true i m n))
+
+    go : (t : Bool) → ltb i NO-BODY ≡ t → WordNames m (some i)
+    go t e = record { passes = rw e (passes t e); read = λ n. rw e (read t e n) }
 
 end-read : (e : End) → bodyNumberAt (bodyWord (e .body)) ≡ e .body
     → _≡_ {A = End}
@@ -139,7 +92,7 @@ end-read e q = λ i. record { body = q i; prim = prim-read (e .prim) i; radius =
 
 law-read : (l : Law) (a b : End) → (usesThird (lawNumber l) ≡ true → bodyNumberAt (bodyWord (thirdField l .body)) ≡ thirdField l .body)
     → lawFrom (lawNumber l) (relParts (record { law = l; a = a; b = b })) ≡ l
-unfolding lawFrom relParts endNumbers byNumber
+unfolding lawFrom endFrom relParts endNumbers byNumber
 law-read (mate off) a b t = refl
 law-read (flush off) a b t = refl
 law-read (angle want reference) a b t = refl
@@ -152,12 +105,12 @@ law-read (gear teethA teethB want carrier) a b t = λ i. gear teethA teethB want
 from-rel : (rel : Rel) → bodyNumberAt (bodyWord (rel .a .body)) ≡ rel .a .body → bodyNumberAt (bodyWord (rel .b .body)) ≡ rel .b .body
     → (usesThird (lawNumber (rel .law)) ≡ true → bodyNumberAt (bodyWord (thirdField (rel .law) .body)) ≡ thirdField (rel .law) .body)
     → relFrom (relParts rel) ≡ rel
-unfolding relFrom relParts endNumbers
+unfolding relFrom endFrom relParts endNumbers
 from-rel rel p q t = λ i. record { law = law-read (rel .law) (rel .a) (rel .b) t i; a = end-read (rel .a) p i; b = end-read (rel .b) q i }
 
 end-named : (m : ℕ) (s : List ℕ) (e : ℕ) (b : Option ℕ) → m ≤ 64 → endNames m s e ≡ true → u16At s (e + 2) ≡ bodyWord b → bodyNumberAt (bodyWord b) ≡ b
 unfolding endNames
-end-named m s e b h n w = word-read m b h (rw w at n)
+end-named m s e b h n w = let word = word-names m b h in word .read (sym (word .passes) ∙ (rw w at n))
 
 where-used : (used test : Bool) → not used || test ≡ true → used ≡ true → test ≡ true
 where-used true test h k = h

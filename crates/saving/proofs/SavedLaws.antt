@@ -21,7 +21,7 @@ use Rattle.writing.proofs.LentLaws.{first-more, room-enough}
 use Rattle.saving.specs.Saving.{bodyParts, endNumbers, relParts}
 use Rattle.saving.specs.Saved.{bodyIn, relIn, partsOf, BodySaved, RelSaved, BodiesSaved, RelsSaved, SceneSaved, SaveAnswer}
 use Rattle.saving.specs.declared.save.Scene.{Scene}
-use Rattle.saving.proofs.SavingLaws.{saved-once}
+use Rattle.saving.proofs.SavingLaws.{saved-once, six}
 
 -- ---- one record
 
@@ -63,14 +63,23 @@ module _ (sc : Scene) where
       → f ≡ roomFault (sc .m) (sc .k) room → w ≡ orElse s f → SceneSaved sc room w
   unfolding sceneFault recordsFault
   records-then room c b r s f w p z x y e q h =
+      let number : w ≡ sceneFault (partsOf sc) room =
+      later _ (countsFault (sc .m) (sc .k)) _ c w refl p z (rw (h, e, x .number, y .number, q)) in
       record {
-        number = later _ (countsFault (sc .m) (sc .k)) _ c w refl p z (rw (h, e, x .number, y .number, q));
+        number = number;
+        six = six (sc .m) (sc .k) (bodyIn sc) (relIn sc) room w (λ n. y .is) number;
         once = λ n. saved-once (sc .m) (sc .k) (bodyIn sc) (relIn sc) n (one-sheet (partsOf sc) (record { body = x .is; rel = y .is }) n);
       }
 
   pub counts-stop : (room c : ℕ) → c ≡ countsFault (sc .m) (sc .k) → (c ≡ 0 → ⊥) → SceneSaved sc room c
   unfolding sceneFault
-  counts-stop room c p ne = record { number = first _ (countsFault (sc .m) (sc .k)) _ c refl p ne; once = λ n. absurd (ne (p ∙ n)) }
+  counts-stop room c p ne =
+      let number : c ≡ sceneFault (partsOf sc) room = first _ (countsFault (sc .m) (sc .k)) _ c refl p ne in
+      record {
+        number = number;
+        six = six (sc .m) (sc .k) (bodyIn sc) (relIn sc) room c (λ n. absurd (ne (p ∙ n))) number;
+        once = λ n. absurd (ne (p ∙ n));
+      }
 
   -- a scene that is accepted
   pub record Accepted (room : ℕ) : Type 0 where
@@ -91,12 +100,18 @@ module _ (sc : Scene) where
   pub written : (sheet sheet' : List ℕ) (n q : ℕ) → SceneSaved sc (length sheet) n → n ≡ 0 → q ≡ relStart (sc .m) (sc .k) → Put sheet sheet' 0 q (sheetBytes (partsOf sc))
       → SaveAnswer sc 0 sheet sheet'
   written sheet sheet' n q p z e put =
-      record { number = sym z ∙ p .number; sheet-is = put .text ∙ ap (λ (o : ℕ). sheetBytes (partsOf sc) ++ drop o sheet) e; once = p .once }
+      record {
+        number = sym z ∙ p .number;
+        six = rw z at (p .six);
+        sheet-is = put .text ∙ ap (λ (o : ℕ). sheetBytes (partsOf sc) ++ drop o sheet) e;
+        once = p .once;
+      }
 
   pub refused : (sheet : List ℕ) (n : ℕ) → SceneSaved sc (length sheet) n → (n ≡ 0 → ⊥) → SaveAnswer sc n sheet sheet
   refused sheet n p ne =
       record {
         number = p .number;
+        six = p .six;
         sheet-is = sym (ap (λ (t : Bool). cond t (sheetBytes (partsOf sc) ++ drop (relStart (sc .m) (sc .k)) sheet) sheet) (ne-eqb n 0 ne));
         once = p .once;
       }

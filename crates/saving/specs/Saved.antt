@@ -16,7 +16,7 @@ use Rattle.relations.specs.declared.model.Rel.{Rel as RelStruct}
 use Rattle.relations.specs.Model.{Body, Rel, bodyOf, relOf}
 use Rattle.format.specs.Format.{relStart}
 use Rattle.writing.specs.Writing.{SceneParts, BodyIs, RelIs, sheetBytes, bodyPartsFault, relPartsFault, firstFault, countsFault, sceneFault}
-use Rattle.saving.specs.Saving.{bodyParts, relParts, sceneParts, SavedOnce}
+use Rattle.saving.specs.Saving.{bodyParts, relParts, sceneParts, SavedOnce, Six}
 use Rattle.saving.specs.declared.save.Scene.{Scene}
 
 -- ---- the bodies and relations of the scene; past the end of an array, where no count within its limit reaches, stands one that has no say
@@ -62,14 +62,17 @@ pub record RelsSaved (sc : Scene) (n r : ℕ) : Type 0 where
   pub number : r ≡ firstFault (λ j. relPartsFault (sc .m) (relParts (relIn sc j))) n
   pub is : (j : ℕ) → j < n → RelIs (relParts (relIn sc j))
 
--- a scene's number where `room` bytes are lent, and both round trips where it passes 3
+-- a scene's number where `room` bytes are lent, what 6 means in it, and both round trips where it passes 3
 pub record SceneSaved (sc : Scene) (room r : ℕ) : Type 0 where
   pub number : r ≡ sceneFault (partsOf sc) room
+  pub six : Six (sc .m) (sc .k) (bodyIn sc) (relIn sc) room r
   pub once : countsFault (sc .m) (sc .k) ≡ 0 → SavedOnce (sc .m) (sc .k) (bodyIn sc) (relIn sc)
 
 -- The promise of `save`: the number r, and the sheet at entry and at exit.
 pub record SaveAnswer (sc : Scene) (r : ℕ) (sheet sheet' : List ℕ) : Type 0 where
   pub number : r ≡ sceneFault (partsOf sc) (length sheet)
+  -- 6 is a body's number of m or more, also where a word does not hold it
+  pub six : Six (sc .m) (sc .k) (bodyIn sc) (relIn sc) (length sheet) r
   -- on refusal the same; else the scene's sheet, and a longer slice keeps its rest
   pub sheet-is : sheet' ≡ cond (eqb r 0) (sheetBytes (partsOf sc) ++ drop (relStart (sc .m) (sc .k)) sheet) sheet
   pub once : countsFault (sc .m) (sc .k) ≡ 0 → SavedOnce (sc .m) (sc .k) (bodyIn sc) (relIn sc)

@@ -2,20 +2,20 @@
 -- uses which field: what is not used is 0. Definitions only.
 use Prim.Native.Nat.{ℕ, _+_, _<_}
 use mathlib.Core.Path.{_≡_}
-use mathlib.Core.Bool.{false, cond}
+use mathlib.Core.Bool.{Bool, true, false, _&&_, _||_, cond}
 use mathlib.Core.List.{List, [], _∷_, _++_}
 use mathlib.Core.Option.{Option, none, some}
-use lib.Dec.{ltb}
+use lib.Dec.{eqb, ltb}
 use lib.Ieee.{Float}
 use Rattle.numbers.specs.Double.{zero64}
 use Rattle.vectors.specs.Vec.{Vec, zeroV}
 use Rattle.relations.specs.Geometry.{Geo, plane, line, point, circle, pointOf}
 use Rattle.relations.specs.Model.{Body, End, Law, mate, flush, angle, insert, tangent, symmetry, joint, gear, Rel}
 use Rattle.records.specs.Numbers.{GROUND, lawNumber, jointNumber, primNumber, flagNumber}
-use Rattle.records.specs.Record.{bodyAt, relAt}
+use Rattle.records.specs.Record.{bodyNumberAt, bodyAt, relAt}
 use Rattle.format.specs.Format.{bodiesOf, relationsOf, bodyStart, relStart}
-use Rattle.format.specs.Faults.{sheetFault}
-use Rattle.writing.specs.Writing.{BodyParts, RelParts, SceneParts, AllBytes, sheetBytes, recordsFault}
+use Rattle.format.specs.Faults.{orElse, unless, relShape, relTeeth, relLimits, sheetFault}
+use Rattle.writing.specs.Writing.{BodyParts, RelParts, SceneParts, AllBytes, relBytes, sheetBytes, bodyPartsFault, firstFault, countsFault, recordsFault, roomFault}
 
 -- ---- a body
 
@@ -207,3 +207,53 @@ module _ (m k : ℕ) (body : ℕ → Body) (rel : ℕ → Rel) where
     pub there : recordsFault (sceneParts m k body rel) ≡ 0 → Holds (sheetBytes (sceneParts m k body rel))
     -- and only this one: saving what was read from a sheet gives its bytes, and the tests pass it
     pub only : (s : List ℕ) → Holds s → (sheetBytes (sceneParts m k body rel) ≡ s) × (recordsFault (sceneParts m k body rel) ≡ 0)
+
+-- ---- 6: a body's number of m or more, before it is cut to a word
+
+-- true if a scene of m bodies has it: the ground, or a body's number below m
+abbrev pub bodyThere : ℕ → Option ℕ → Bool
+bodyThere m none = true
+bodyThere m (some i) = ltb i m
+
+-- the same of the third end, where the law has one
+abbrev pub thirdThere : ℕ → Law → Bool
+thirdThere m (mate off) = true
+thirdThere m (flush off) = true
+thirdThere m (angle want reference) = true
+thirdThere m (insert off aligned) = true
+thirdThere m (tangent off inside) = true
+thirdThere m (symmetry p) = bodyThere m (p .body)
+thirdThere m (joint kind flip off want) = true
+thirdThere m (gear teethA teethB want carrier) = bodyThere m (carrier .body)
+
+-- the same of every end that the relation uses
+abbrev pub bodiesThere : ℕ → Rel → Bool
+bodiesThere m r = bodyThere m (r .a .body) && (bodyThere m (r .b .body) && thirdThere m (r .law))
+
+-- a relation's number: 5, 14 and 7 by its bytes, 6 by the bodies of its ends
+unfoldable pub relStructFault : ℕ → Rel → ℕ
+relStructFault m r =
+    let s = relBytes (relParts r) in
+    cond (relShape s 0) (cond (relTeeth s 0) (cond (bodiesThere m r) (unless (relLimits s 0) 7) 6) 14) 5
+
+-- a scene's number, where `room` bytes are lent
+unfoldable pub sceneStructFault : ℕ → ℕ → (ℕ → Body) → (ℕ → Rel) → ℕ → ℕ
+sceneStructFault m k body rel room =
+    let bodies = firstFault (λ i. bodyPartsFault (bodyParts (body i))) m in
+    let rels = firstFault (λ j. relStructFault m (rel j)) k in
+    orElse (countsFault m k) (orElse (orElse bodies rels) (roomFault m k room))
+
+-- what the word of an end's body says in a scene of m bodies
+pub record WordNames (m : ℕ) (b : Option ℕ) : Type 0 where
+  -- test 6 passes it exactly where the body is the ground or a number below m: 65535 as a body's number is not the
+  -- ground, and 65539 is not body 3
+  pub passes : eqb (bodyWord b) GROUND || ltb (bodyWord b) m ≡ bodyThere m b
+  -- and then it is read as this body
+  pub read : bodyThere m b ≡ true → bodyNumberAt (bodyWord b) ≡ b
+
+-- what 6 means, of a scene whose number is r
+pub record Six (m k : ℕ) (body : ℕ → Body) (rel : ℕ → Rel) (room r : ℕ) : Type 0 where
+  pub word : countsFault m k ≡ 0 → (b : Option ℕ) → WordNames m b
+  -- r is 6 exactly where the first record that fails is a relation that passes 5 and 14 and has an end in use whose
+  -- body's number is m or more
+  pub number : r ≡ sceneStructFault m k body rel room
