@@ -114,11 +114,11 @@ pub record Begun (k n : ℕ) (s t : List ℕ) (o next left rest : ℕ) : Type 0 
 pub begun-start : (k n : ℕ) (s : List ℕ) (o : ℕ) → o ≤ length s → Begun k n s s o o k n
 begun-start k n s o h = record { done = []; whole = refl; put = put-nothing s o h }
 
-pub begun-step : (k n : ℕ) (s t u : List ℕ) (o next q left rest b : ℕ) → 0 < left → b ≡ rest % 256 → Put t u next q (b ∷ []) → Begun k n s t o next left rest
-    → Begun k n s u o q (left - 1) (rest / 256)
+pub begun-step : (k n : ℕ) (s t u : List ℕ) (o next q left rest b : ℕ) → 0 < left → Put t u next q (b ∷ [])
+    → b ≡ rest % 256 → Begun k n s t o next left rest → Begun k n s u o q (left - 1) (rest / 256)
 unfolding littleEndian
-begun-step k n s t u o next q zero rest b h e y p = absurd (omega arith)
-begun-step k n s t u o next q (suc left) rest b h e y p =
+begun-step k n s t u o next q zero rest b h y e p = absurd (omega arith)
+begun-step k n s t u o next q (suc left) rest b h y e p =
     let j : suc left - 1 ≡ left = omega arith in
     subst (λ (w : ℕ). Begun k n s u o q w (rest / 256)) (sym j)
     (record {

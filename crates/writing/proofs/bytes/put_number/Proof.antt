@@ -1,6 +1,6 @@
 -- `writing::bytes::put_number` meets its contract. The invariant: the bytes so far stand before those of `rest` that are to come. The measure is how many are left.
 -- Assumes nothing.
-use mathlib.Core.Path.{_≡_, refl}
+use mathlib.Core.Path.{_≡_}
 use Prim.Native.Nat.{_+_}
 use native.Mathlib.Omega.{arith}
 use borrow.Author.Needs.{needs}
@@ -34,7 +34,7 @@ loop-again : tie.Need-loop-again Inv-loop μ-loop
 loop-again c =
     let l = c .before .before .before .before .before .loop in
     let y = c .before .before .put-byte .ensures .1 in
-    let p = begun-step _ _ _ (l .out) _ _ _ _ (l .left) (l .rest) _ (omega arith) refl y (l .inv .1 .1) in
+    let p = begun-step _ _ _ (l .out) _ _ _ _ (l .left) (l .rest) _ (omega arith) y (omega arith) (l .inv .1 .1) in
     (put-size _ _ _ _ _ (p .put), (omega arith, p))
 
 same-length : tie.Need-same-length Inv-loop μ-loop
