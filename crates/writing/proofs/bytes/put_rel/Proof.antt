@@ -1,7 +1,9 @@
 -- `writing::bytes::put_rel` puts `relBytes`: the law, five doubles, the three ends (`put-then`). Assumes nothing.
 use borrow.Author.Needs.{needs}
+use mathlib.Core.List.{_++_}
 use native.Mathlib.Omega.{arith}
-use Rattle.writing.specs.Writing.{relBytes}
+use Rattle.writing.specs.Bytes.{doublesBytes}
+use Rattle.writing.specs.Writing.{RelParts, lawBytes, endBytes, relBytes}
 use Rattle.writing.proofs.PutLaws.{put-then}
 use Rattle.writing.proofs.bytes.put_rel.Statement.{statement}
 use Rattle.writing.proofs.bytes.put_rel.Tie as tie
@@ -37,12 +39,16 @@ returns c =
     let fourth = fifth .before .before .before .before in
     let third = fourth .before .before .before .before in
     let second = third .before .before .before .before in
-    let first = second .before .before .before .before in (
+    let first = second .before .before .before .before in
+    let lent = first .before .before .before .before .before .before .args in
+    let p : RelParts = record { bytes = lent .bytes .now; words = lent .words .now; numbers = lent .numbers .now } in
+    let end-b = endBytes p 5 3 13 in
+    let end-c = endBytes p 7 4 21 in (
       omega arith,
-      put-then _ _ _ _ _ _ _ _ (first .put-law .ensures .1)
-          (put-then _ _ _ _ _ _ _ _ (second .put-doubles .ensures .1)
-          (put-then _ _ _ _ _ _ _ _ (third .put-end .ensures .1)
-          (put-then _ _ _ _ _ _ _ _ (fourth .put-end2 .ensures .1)
+      put-then _ _ _ _ _ _ (lawBytes (p .bytes) (p .words)) _ (first .put-law .ensures .1)
+          (put-then _ _ _ _ _ _ (doublesBytes (p .numbers) 0 5) _ (second .put-doubles .ensures .1)
+          (put-then _ _ _ _ _ _ (endBytes p 3 2 5) (end-b ++ end-c) (third .put-end .ensures .1)
+          (put-then _ _ _ _ _ _ end-b end-c (fourth .put-end2 .ensures .1)
           (fifth .put-end3 .ensures .1)))),
     )
 

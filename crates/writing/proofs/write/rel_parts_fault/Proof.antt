@@ -4,6 +4,7 @@ use mathlib.Core.List.{List}
 use Prim.Native.Nat.{ℕ}
 use native.Mathlib.Omega.{arith}
 use Rattle.format.specs.Faults.{relFault}
+use Rattle.writing.specs.Writing.{RelParts, relBytes}
 use Rattle.writing.proofs.LentLaws.{put-all}
 use borrow.Author.Needs.{needs}
 use Rattle.writing.proofs.write.rel_parts_fault.Statement.{statement}
@@ -28,8 +29,10 @@ returns c =
     let numbers = put .before .before in
     let words = numbers .before in
     let bytes = words .before in
+    let lent = bytes .before .args in
+    let p : RelParts = record { bytes = lent .bytes .now; words = lent .words .now; numbers = lent .numbers .now } in
     record {
-      number = c .rel-fault .ensures ∙ ap (λ (w : List ℕ). relFault (bytes .before .args .m) w 0) own;
+      number = c .rel-fault .ensures ∙ ap (λ (w : List ℕ). relFault (lent .m) w 0) {y = relBytes p} own;
       bytes = λ i. omega (arith, bytes .shared-slice-known .given i);
       words = λ i. omega (arith, words .shared-slice-known2 .given i);
       numbers = λ i. numbers .shared-slice-known3 .given i;
