@@ -1,7 +1,8 @@
--- Laws of the n by n matrices of specs/Eigen.antt: where a row lies; a list that grows at its end, one that is written from the front on, and the identity so written; stores behind
--- the end, which change nothing, so that columns of fewer rows are turned and swapped as the definitions say for n. Assumes nothing.
+-- Laws of the n by n matrices of specs/Eigen.antt: where a row lies; a list that grows at its end, one that is written
+-- from the front on, and the identity so written; stores behind the end, which change nothing, so that columns of
+-- fewer rows are turned and swapped as the definitions say for n; and the rotation by its parts. Assumes nothing.
 use mathlib.Core.Path.{_≡_, refl, sym, ap, _∙_}
-use mathlib.Core.Bool.{cond}
+use mathlib.Core.Bool.{false, cond}
 use mathlib.Core.Logic.{⊎-elim, inl, inr}
 use mathlib.Core.List.{List, [], _∷_, _++_, append-assoc}
 use Prim.Native.Nat.{ℕ, zero, suc, _+_, _*_, _<_, _≤_}
@@ -10,9 +11,9 @@ use native.Mathlib.Omega.{arith}
 use lib.ListN.{length, take, drop, set, getD, length-append, length-set, List·getD-append}
 use lib.Seq.{drop-cons, set-at, set-out, take-at, drop-append-add, drop-drop, length-take-le, getD-at}
 use lib.Dec.{eqb}
-use lib.Ieee.{Float, nan}
-use Rattle.numbers.specs.Double.{zero64, one64}
-use Rattle.eigen.specs.Eigen.{unitRow, unitTo, turnColumns}
+use lib.Ieee.{Float, binary64, nan, mul, lt, ofBits}
+use Rattle.numbers.specs.Double.{zero64, one64, abs}
+use Rattle.eigen.specs.Eigen.{turned, tangentOf, cosineOf, turnColumns, turnRows, rotate, unitRow, unitTo}
 use Rattle.eigen.specs.EigenMemory.{Rows, swapColumns}
 
 -- row i of k rows of n entries lies within them; row i of n lies within the matrix
@@ -100,3 +101,13 @@ turn-rows-of {n} {rows} {v} c s p q h e = e ∙ sym (stored-beyond (turnColumns 
 pub swap-rows-of : {n rows : ℕ} {v w : List Float} (i j : ℕ) → Rows n rows v → w ≡ swapColumns n i j v rows → w ≡ swapColumns n i j v n
 unfolding swapColumns
 swap-rows-of {n} {rows} {v} i j h e = e ∙ sym (stored-beyond (swapColumns n i j v) n i j _ _ (λ k. refl) rows n (omega arith) (h .within))
+
+-- where the entry pq is not next to nothing, m and v turned by its angle are those of `rotate`
+pub rotated : (n p q : ℕ) (m v : List Float) {m1 m2 w : List Float} {a t c : Float} → a ≡ abs (getD m (p * n + q) nan)
+    → lt a (ofBits binary64 0x01A5_6E1F_C2F8_F359) ≡ false
+    → t ≡ tangentOf (getD m (p * n + p) nan) (getD m (q * n + q) nan) (getD m (p * n + q) nan) → c ≡ cosineOf t
+    → m1 ≡ turnColumns n c (mul binary64 t c) p q m n → m2 ≡ turnRows n c (mul binary64 t c) p q m1 n
+    → w ≡ turnColumns n c (mul binary64 t c) p q v n → turned m2 w ≡ rotate n p q (turned m v)
+unfolding rotate
+rotated n p q m v size large angle cosine columns rows vectors =
+    rw (vectors, rows, columns, cosine, angle, ← size, large)

@@ -4,7 +4,7 @@ use Prim.Native.Nat.{_+_, _*_, _≤_}
 use native.Mathlib.Omega.{arith}
 use borrow.Author.Needs.{needs}
 use Rattle.eigen.specs.Eigen.{rotate}
-use Rattle.eigen.proofs.EigenLaws.{row-within, turn-rows-of}
+use Rattle.eigen.proofs.EigenLaws.{row-within, turn-rows-of, rotated}
 use Rattle.eigen.proofs.eigen.rotate.Statement.{statement}
 use Rattle.eigen.proofs.eigen.rotate.Tie as tie
 
@@ -73,7 +73,6 @@ same-length-2 : tie.Need-same-length-2
 same-length-2 c = search needs
 
 returns-2 : tie.Need-returns-2
-unfolding rotate
 returns-2 c =
     let vectors = c .before .before in
     let rows = vectors .before .before .before .before in
@@ -82,15 +81,13 @@ returns-2 c =
     let tangent = cosine .before in
     let test = tangent .before .before .before in
     let o = test .before .before .before .before .before in
-    rw (
-      turn-rows-of _ _ _ _ (o .pre .1 .0) (vectors .turn-columns2 .ensures),
-      rows .turn-rows .ensures,
-      columns .turn-columns .ensures,
-      cosine .cosine .ensures,
-      tangent .tangent .ensures,
-      ← test .before .abs .ensures,
-      test .if1 .left,
-    )
+    let g = o .args in
+    rotated (g .n) (g .p) (g .q) (g .m .now) (g .v .now) (test .before .abs .ensures) (test .if1 .left)
+    (tangent .tangent .ensures)
+    (cosine .cosine .ensures)
+    (columns .turn-columns .ensures)
+    (rows .turn-rows .ensures)
+    (turn-rows-of _ _ _ _ (o .pre .1 .0) (vectors .turn-columns2 .ensures))
 
 pub rotate-spec : {M : Type 1} → statement M
 rotate-spec =
