@@ -1,8 +1,23 @@
--- `snapping::snap::turn_to_angle` is `turnToAngle`, operation by operation: each call promises its own. Assumes nothing.
+-- `snapping::snap::turn_to_angle` is `turnToAngle`, operation by operation: each call promises its own, and
+-- `turned-to` puts the five together. Assumes nothing.
+use mathlib.Core.Path.{_≡_, ap, _∙_}
+use lib.Ieee.{Float, binary64, sub}
+use Rattle.numbers.specs.Ops.{doubles}
+use Rattle.vectors.specs.Vec.{Vec, scaleV}
+use Rattle.vectors.specs.Math.{Mat, apply, mulM, exp}
+use Rattle.relations.specs.Rows.{turn, JointAt}
 use Rattle.snapping.specs.Snap.{turnToAngle}
-use Rattle.relations.proofs.Values.{mat-is, vec-is}
 use Rattle.snapping.proofs.snap.turn_to_angle.Statement.{statement}
 use Rattle.snapping.proofs.snap.turn_to_angle.Tie as tie
+
+turned-to : (want : Float) (ja jb : JointAt) (r : Mat Float) {x s : Vec Float} {now : Float} {e w : Mat Float}
+    → x ≡ apply doubles r (jb .x) → now ≡ turn (ja .x) x (ja .z) → s ≡ scaleV doubles (ja .z) (sub binary64 want now)
+    → e ≡ exp s → w ≡ mulM e r → w ≡ turnToAngle want ja jb r
+unfolding turnToAngle
+turned-to want ja jb r x-is now-is s-is e-is w-is =
+    let turned = now-is ∙ ap (λ (v : Vec Float). turn (ja .x) v (ja .z)) x-is in
+    let scaled = s-is ∙ ap (λ (a : Float). scaleV doubles (ja .z) (sub binary64 want a)) turned in
+    w-is ∙ ap (λ (m : Mat Float). mulM m r) (e-is ∙ ap exp scaled)
 
 apply-requires : tie.Need-apply-requires
 apply-requires c κs = tt
@@ -20,13 +35,14 @@ mul-requires : tie.Need-mul-requires
 mul-requires c κs = tt
 
 returns : tie.Need-returns
-unfolding turnToAngle
 returns c =
     let exp = c .before in
     let scale = exp .before in
     let turn = scale .before in
     let apply = turn .before in
-    rw (mat-is (c .mul .ensures), mat-is (exp .exp .ensures), vec-is (scale .scale .ensures), turn .turn .ensures, vec-is (apply .apply .ensures))
+    turned-to _ _ _ _ (apply .apply .ensures) (turn .turn .ensures) (scale .scale .ensures)
+    (exp .exp .ensures)
+    (c .mul .ensures)
 
 pub turn-to-angle-spec : {M : Type 1} → statement M
 turn-to-angle-spec =
