@@ -2,6 +2,7 @@
 use mathlib.Core.Path.{_≡_, refl, sym, ap, subst, _∙_}
 use mathlib.Core.Bool.{Bool, true, false, not, _&&_, and-assoc, and-true}
 use mathlib.Core.List.{List, [], _∷_, _++_, map, append-assoc}
+use mathlib.Core.Option.{Option}
 use Prim.Native.Nat.{ℕ, zero, suc, _+_, _*_, _≤_, _<_}
 use native.Mathlib.Nat.{not-suc-le-zero, le-of-suc-le-suc}
 use native.Mathlib.Numerals.{add-one}
@@ -24,8 +25,8 @@ use Rattle.rounds.specs.Rounds.{unknownsIn, firstIn, rowsIn}
 use Rattle.rounds.specs.declared.parts.SolveParts.{SolveParts as PartsStruct}
 use Rattle.placement.specs.Answer.{Shown}
 use Rattle.closeness.specs.HowClosely.{allWithin}
-use Rattle.portions.specs.Portions.{Running, runOf, answerAt}
-use Rattle.by_rounds.specs.Running.{runningIn, Stands}
+use Rattle.portions.specs.Portions.{Running, runOf, begin, on, beginMade, onMade, answerAt}
+use Rattle.by_rounds.specs.Running.{runningIn, Stands, StandsBy}
 use Rattle.by_rounds.specs.State.{stateSize, heldIn}
 use Rattle.by_rounds.specs.Held.{HeldPut, Left}
 use Rattle.by_rounds.specs.declared.ends.Going.{Going as GoingStruct}
@@ -164,3 +165,20 @@ pub left-as : (sc : Scene) (q : Parameters) (c : SceneStruct) (a b : Running) (i
 left-as sc q c a b i j state state' poses poses' frames frames' errors errors' e l h k =
     subst (λ (n : ℕ). Left sc q c b n state state' poses poses' frames frames' errors errors' e) k
     (subst (λ (st : Running). Left sc q c st i state state' poses poses' frames frames' errors errors' e) h l)
+
+-- by what the rounds have come to, of a call that begins and of one that goes on
+module _ (sc : Scene) (q : Parameters) (c : SceneStruct) (p : PartsStruct) (state state' poses poses' frames frames' errors errors' : List Float) (e : ReachedStruct) where
+  abbrev LeftAt : Running → ℕ → Type 0
+  LeftAt st made = Left sc q c st made state state' poses poses' frames frames' errors errors' e
+
+  pub left-begun : (drag : Option ℕ) (portion : ℕ) (s t : List Float) (h : PortionStruct) → StandsBy c p s t h (begin sc q drag portion) (beginMade sc q drag portion)
+      → LeftAt (runningIn c p t (h .going)) (h .made) → LeftAt (begin sc q drag portion) (beginMade sc q drag portion)
+  left-begun drag portion s t h w l = left-as sc q c _ _ _ _ state state' poses poses' frames frames' errors errors' e l (w .stands .running) (w .made-is)
+
+  pub left-on : (drag : Option ℕ) (portion : ℕ) (s t u : List Float) (g : GoingStruct) (h : PortionStruct) (st : Running) → Stands c p s t g st
+      → StandsBy c p t u h (on sc q drag portion (runningIn c p t g)) (onMade sc q drag portion (runningIn c p t g)) → LeftAt (runningIn c p u (h .going)) (h .made)
+      → LeftAt (on sc q drag portion st) (onMade sc q drag portion st)
+  left-on drag portion s t u g h st a w l =
+      left-as sc q c _ _ _ _ state state' poses poses' frames frames' errors errors' e l
+      (w .stands .running ∙ ap (on sc q drag portion) (a .running))
+      (w .made-is ∙ ap (onMade sc q drag portion) (a .running))

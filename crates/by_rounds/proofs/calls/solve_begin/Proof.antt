@@ -1,9 +1,10 @@
 -- `by_rounds::calls::solve_begin`: the scratch is arranged, and what the rounds come to in it is put to the caller's memory. Assumes nothing.
 use Rattle.scene.specs.Scene.{sceneOf, parametersOf}
+use Rattle.relations.specs.Model.{bodyNumber}
 use lib.ListN.{length}
 use Rattle.rounds.specs.Parts.{Arranged}
 use Rattle.rounds.proofs.RoundLaws.{arranged-as, arranged-same}
-use Rattle.by_rounds.proofs.HeldLaws.{left-as}
+use Rattle.by_rounds.proofs.HeldLaws.{left-begun}
 use borrow.Author.Needs.{needs}
 use Rattle.by_rounds.proofs.calls.solve_begin.Statement.{statement}
 use Rattle.by_rounds.proofs.calls.solve_begin.Tie as tie
@@ -50,9 +51,8 @@ returns c =
     let last = c .before .before .before .before .before .before .before .before .before .before in
     let went = last .before .before .before .before .before .before .before .before in
     let g = went .before .before .before .before .before .before .before .before .before .args in
-    left-as (sceneOf (g .sheet .now) (g .scene)) (parametersOf (g .q)) (g .scene) _ _ _ _ _ _ _ _ _ _ _ _ _ (last .put-reached .ensures)
-    (went .begin .ensures .stands .running)
-    (went .begin .ensures .made-is)
+    left-begun (sceneOf (g .sheet .now) (g .scene)) (parametersOf (g .q)) (g .scene) _ _ _ _ _ _ _ _ _ _ (bodyNumber (g .drag)) (g .portion) (g .s .now) _ _ (went .begin .ensures)
+    (last .put-reached .ensures)
 
 pub solve-begin-spec : {M : Type 1} → statement M
 solve-begin-spec =

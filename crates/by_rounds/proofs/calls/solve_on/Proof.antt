@@ -1,12 +1,12 @@
 -- `by_rounds::calls::solve_on`: the scratch is arranged, what the caller holds is taken to it, and what the rounds come to is put to the caller's memory. Assumes nothing.
-use mathlib.Core.Path.{ap, _∙_}
+use mathlib.Core.Path.{_∙_}
 use Rattle.scene.specs.Scene.{sceneOf, parametersOf}
 use Rattle.relations.specs.Model.{bodyNumber}
 use lib.ListN.{length}
 use Rattle.rounds.specs.Parts.{Arranged}
 use Rattle.rounds.proofs.RoundLaws.{arranged-as, arranged-same}
-use Rattle.portions.specs.Portions.{on, onMade}
-use Rattle.by_rounds.proofs.HeldLaws.{left-as}
+use Rattle.by_rounds.specs.State.{heldIn}
+use Rattle.by_rounds.proofs.HeldLaws.{left-on}
 use borrow.Author.Needs.{needs}
 use Rattle.by_rounds.proofs.calls.solve_on.Statement.{statement}
 use Rattle.by_rounds.proofs.calls.solve_on.Tie as tie
@@ -63,13 +63,11 @@ returns c =
     let went = last .before .before .before .before .before .before .before .before in
     let taken = went .before .before .before .before in
     let g = taken .before .before .before .before .before .before .before .before .before .before .args in
-    let sc = sceneOf (g .sheet .now) (g .scene) in
-    let q = parametersOf (g .q) in
-    let drag = bodyNumber (g .drag) in
-    let held = taken .take-held .ensures .running in
-    left-as sc q (g .scene) _ _ _ _ _ _ _ _ _ _ _ _ _ (last .put-reached .ensures)
-    (went .on .ensures .stands .running ∙ ap (on sc q drag (g .portion)) held)
-    (went .on .ensures .made-is ∙ ap (onMade sc q drag (g .portion)) held)
+    left-on (sceneOf (g .sheet .now) (g .scene)) (parametersOf (g .q)) (g .scene) _ _ _ _ _ _ _ _ _ _ (bodyNumber (g .drag)) (g .portion) (g .s .now) _ _ _ _
+    (heldIn (g .scene .n) (g .scene .rows) (g .done) (g .run) (g .state .now))
+    (taken .take-held .ensures)
+    (went .on .ensures)
+    (last .put-reached .ensures)
 
 pub solve-on-spec : {M : Type 1} → statement M
 solve-on-spec =
