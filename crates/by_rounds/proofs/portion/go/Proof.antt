@@ -13,7 +13,7 @@ use Rattle.by_rounds.proofs.portion.go.Tie as tie
 
 abbrev Inv-loop : tie.InvT-loop
 Inv-loop sheet scene s₀ p q portion e₀ made₀ i₀ s e made i =
-    (i ≤ portion) × (Gone (sceneOf sheet scene) scene p (parametersOf q) s₀ s e₀ e portion i made × (made ≤ i))
+    Gone (sceneOf sheet scene) scene p (parametersOf q) s₀ s e₀ e portion i made × ((i ≤ portion) × (made ≤ i))
 
 abbrev μ-loop : tie.MeasureT-loop
 μ-loop sheet scene s₀ p q portion e₀ made₀ i₀ s e made i = portion - i
@@ -22,7 +22,7 @@ loop-holds : tie.Need-loop-holds Inv-loop μ-loop
 loop-holds c =
     let o = c .before .before in
     let g = o .args in
-    (omega arith, (gone-start (sceneOf (g .sheet .now) (g .scene)) (g .scene) (g .p) (parametersOf (g .q)) (g .s .now) (g .g) (g .portion) (o .pre .1 .1 .1 .1 .0), omega arith))
+    (gone-start (sceneOf (g .sheet .now) (g .scene)) (g .scene) (g .p) (parametersOf (g .q)) (g .s .now) (g .g) (g .portion) (o .pre .1 .1 .1 .1 .0), (omega arith, omega arith))
 
 is-running-requires : tie.Need-is-running-requires Inv-loop μ-loop
 is-running-requires c κs = search needs
@@ -33,21 +33,21 @@ one-more-requires c κs =
     let at = is .before .before in
     let o = at .before .before .before in
     let g = o .args in
-    let few = few-left (g .sheet .now) (g .scene) (g .p) (parametersOf (g .q)) (at .loop .s) (at .loop .e) _ (o .pre .0) (o .pre .1 .1 .1 .0) (at .loop .inv .1 .0 .settled) (is .is-running .ensures) (c .before .if1 .taken) in
-    (o .pre .0, (arranged-same (at .loop .inv .1 .0 .size) (o .pre .1 .0), ((few .rows, o .pre .1 .1 .0, few .done), ap allFinite (at .loop .inv .1 .0 .weights) ∙ o .pre .1 .1 .1 .1 .1)))
+    let few = few-left (g .sheet .now) (g .scene) (g .p) (parametersOf (g .q)) (at .loop .s) (at .loop .e) _ (o .pre .0) (o .pre .1 .1 .1 .0) (at .loop .inv .0 .settled) (is .is-running .ensures) (c .before .if1 .taken) in
+    (o .pre .0, (arranged-same (at .loop .inv .0 .size) (o .pre .1 .0), ((few .rows, o .pre .1 .1 .0, few .done), ap allFinite (at .loop .inv .0 .weights) ∙ o .pre .1 .1 .1 .1 .1)))
 
 add-made : tie.Need-add-made Inv-loop μ-loop
 add-made c = omega arith
 
 same-length : tie.Need-same-length Inv-loop μ-loop
-same-length c = c .before .before .before .loop .inv .1 .0 .size
+same-length c = c .before .before .before .loop .inv .0 .size
 
 returns : tie.Need-returns Inv-loop μ-loop
 returns c =
     let is = c .before in
     let at = is .before .before in
     let g = at .before .before .before .args in
-    gone-stop (sceneOf (g .sheet .now) (g .scene)) (g .scene) (g .p) (parametersOf (g .q)) (g .s .now) (at .loop .s) (g .g) (at .loop .e) (g .portion) (at .loop .i) (at .loop .made) _ (at .loop .inv .1 .0) (is .is-running .ensures) (c .if1 .left)
+    gone-stop (sceneOf (g .sheet .now) (g .scene)) (g .scene) (g .p) (parametersOf (g .q)) (g .s .now) (at .loop .s) (g .g) (at .loop .e) (g .portion) (at .loop .i) (at .loop .made) _ (at .loop .inv .0) (is .is-running .ensures) (c .if1 .left)
 
 add-i : tie.Need-add-i Inv-loop μ-loop
 add-i c = omega arith
@@ -63,16 +63,16 @@ loop-again c =
     let at = is .before .before in
     let o = at .before .before .before in
     let g = o .args in
-    (omega arith, (gone-on (sceneOf (g .sheet .now) (g .scene)) (g .scene) (g .p) (parametersOf (g .q)) (g .s .now) (at .loop .s) (g .g) (at .loop .e) (g .portion) (at .loop .i) (at .loop .made) _ (at .loop .inv .1 .0) (is .is-running .ensures) _ _ (o .pre .1 .1 .1 .0) (omega arith) (on .if1 .taken) (made .one-more .ensures), omega arith))
+    (gone-on (sceneOf (g .sheet .now) (g .scene)) (g .scene) (g .p) (parametersOf (g .q)) (g .s .now) (at .loop .s) (g .g) (at .loop .e) (g .portion) (at .loop .i) (at .loop .made) _ (at .loop .inv .0) (is .is-running .ensures) _ _ (o .pre .1 .1 .1 .0) (omega arith) (on .if1 .taken) (made .one-more .ensures), (omega arith, omega arith))
 
 same-length-2 : tie.Need-same-length-2 Inv-loop μ-loop
-same-length-2 c = c .before .loop .inv .1 .0 .size
+same-length-2 c = c .before .loop .inv .0 .size
 
 returns-2 : tie.Need-returns-2 Inv-loop μ-loop
 returns-2 c =
     let at = c .before in
     let g = at .before .before .before .args in
-    gone-end (sceneOf (g .sheet .now) (g .scene)) (g .scene) (g .p) (parametersOf (g .q)) (g .s .now) (at .loop .s) (g .g) (at .loop .e) (g .portion) (at .loop .i) (at .loop .made) (omega arith) (at .loop .inv .1 .0)
+    gone-end (sceneOf (g .sheet .now) (g .scene)) (g .scene) (g .p) (parametersOf (g .q)) (g .s .now) (at .loop .s) (g .g) (at .loop .e) (g .portion) (at .loop .i) (at .loop .made) (omega arith) (at .loop .inv .0)
 
 pub go-spec : {M : Type 1} → statement M
 go-spec =
