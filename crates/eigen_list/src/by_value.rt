@@ -1,4 +1,5 @@
-// Records of `sym_eigen` on the six-by-six by value, and of `span_basis`.
+// Records of `sym_eigen` on the six-by-six by value, and of `span_basis`. No contract says what a file holds, so whether a record has the answer that is found here
+// is open.
 ghost use Prim.Native.Nat.{_≤_, _<_};
 use lists::answers::same;
 use lists::list;

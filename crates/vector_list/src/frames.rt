@@ -1,4 +1,4 @@
-// Matrices and frames of a list.
+// Matrices and frames of a list. No contract says what a file holds, so what is read, and whether an answer is what was read, is open.
 
 use lists::list::word;
 use lists::vector::same_vector;
