@@ -1,4 +1,4 @@
-// What stands in the outputs that are lent to a call.
+// What stands in the outputs that are lent to a call. No contract says what a file holds, so whether they are the list's next words is open.
 
 use lists::answers::same;
 use lists::list::word;

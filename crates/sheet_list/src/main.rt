@@ -271,16 +271,30 @@ fn replay(path: &[u8], k: List, scratch: &mut [f64]) {
     list::close(path, fd, answers, wrong);
 }
 
-// One scratch serves all calls and is never cleared. It is as long as the lists ask; 800 rows would ask `solve` for 971,712 doubles, nearly all of a stack of 8 MB.
-fn replay_all(scratch: &mut [f64; 300_000]) {
+// Refusals, each field of a sheet, and the calls on one relation.
+fn replay_refused(scratch: &mut [f64; 300_000]) {
     replay(b"sheets_refused.bin", List::Sheets, scratch);
     replay(b"sheets_fields.bin", List::Fields, scratch);
     replay(b"relation_calls.bin", List::Relations, scratch);
+}
+
+fn replay_solved(scratch: &mut [f64; 300_000]) {
     replay(b"sheets_solved.bin", List::Sheets, scratch);
     replay(b"sheets_limits.bin", List::Sheets, scratch);
     replay(b"sheets_geared.bin", List::Sheets, scratch);
+}
+
+// Calls that choose their parameters, and calls that choose nothing.
+fn replay_chosen(scratch: &mut [f64; 300_000]) {
     replay(b"sheets_parameters.bin", List::Sheets, scratch);
     replay(b"sheets_bare.bin", List::Sheets, scratch);
+}
+
+// One scratch serves all calls and is never cleared. It is as long as the lists ask; 800 rows would ask `solve` for 971,712 doubles, nearly all of a stack of 8 MB.
+fn replay_all(scratch: &mut [f64; 300_000]) {
+    replay_refused(scratch);
+    replay_solved(scratch);
+    replay_chosen(scratch);
 }
 
 fn main() {

@@ -1,7 +1,9 @@
 // Whether `solve` and `dof` give the list's answer. On acceptance the outputs begin with the list's next words, and the rest is as before; on refusal all of
-// them are as before. Before a call the flag is 77, and the total 777.
+// them are as before. Before a call the flag is 77, and the total 777. No contract says what a file holds, so whether an answer is the list's is
+// open, and so is what a call leaves in the scratch.
 
-ghost use Prim.Native.Nat.{_<_};
+ghost use Prim.Native.Nat.{_≤_, _<_};
+ghost use lib.ListN.{length};
 use crate::lent::BEFORE;
 use crate::lent::holds;
 use lists::list::word;
@@ -71,7 +73,8 @@ fn outputs_right(
 // `solve` by what the call chooses; call 6 chooses nothing.
 fn solve_number(
     s: &[u8],
-    c: Call,
+    which: u64,
+    q: Chosen,
     drag: u16,
     scratch: &mut [f64],
     poses: &mut [f64],
@@ -79,10 +82,9 @@ fn solve_number(
     errors: &mut [f64],
     converged: &mut u8,
 ) -> u32 {
-    if c.which == 6 {
+    if which == 6 {
         return sheet_solve(s, drag, scratch, poses, frames, errors, converged);
     }
-    let q = c.chosen;
     sheet_solve_with(
         s,
         drag,
@@ -98,48 +100,101 @@ fn solve_number(
     )
 }
 
-// As many doubles of each output are lent as the call says.
+// The first n doubles of scratch, p of poses, f of frames and e of errors are lent.
 fn solve_lent(
-    fd: i32,
     s: &[u8],
+    which: u64,
+    q: Chosen,
+    drag: u16,
+    n: usize,
+    p: usize,
+    f: usize,
+    e: usize,
     scratch: &mut [f64],
     poses: &mut [f64],
     frames: &mut [f64],
     errors: &mut [f64],
-    c: Call,
-) -> bool {
-    if c.number > 0xFFFF || c.scratch > scratch.len() as u64 {
-        return false;
-    }
-    if c.first > poses.len() as u64
-        || c.second > frames.len() as u64
-        || c.third > errors.len() as u64
-    {
-        return false;
-    }
-    let n = c.scratch as usize;
-    let p = c.first as usize;
-    let f = c.second as usize;
-    let e = c.third as usize;
-    let mut converged = 77u8;
-    let number = solve_number(
+    converged: &mut u8,
+) -> u32
+    requires { ⌜ n ≤ length (now scratch) ⌝ }
+    requires { ⌜ p ≤ length (now poses) ⌝ }
+    requires { ⌜ f ≤ length (now frames) ⌝ }
+    requires { ⌜ e ≤ length (now errors) ⌝ }
+{
+    solve_number(
         s,
-        c,
-        c.number as u16,
+        which,
+        q,
+        drag,
         &mut scratch[0..n],
         &mut poses[0..p],
         &mut frames[0..f],
         &mut errors[0..e],
-        &mut converged,
-    );
-    outputs_right(fd, s, number, c.want, poses, frames, errors, converged)
+        converged,
+    )
 }
 
-pub fn solve_right(fd: i32, s: &[u8], scratch: &mut [f64], c: Call) -> bool {
+// The same of outputs that stand as before a call, and whether what it leaves is the list's answer.
+fn solved_right(
+    fd: i32,
+    s: &[u8],
+    which: u64,
+    q: Chosen,
+    drag: u16,
+    n: usize,
+    p: usize,
+    f: usize,
+    e: usize,
+    scratch: &mut [f64],
+    want: u64,
+) -> bool
+    requires { ⌜ n ≤ length (now scratch) ⌝ }
+    requires { ⌜ (p ≤ 1024) × (f ≤ 1024) × (e ≤ 256) ⌝ }
+{
     let mut poses = [BEFORE; 1024];
     let mut frames = [BEFORE; 1024];
     let mut errors = [BEFORE; 256];
-    solve_lent(fd, s, scratch, &mut poses, &mut frames, &mut errors, c)
+    let mut converged = 77u8;
+    let number = solve_lent(
+        s,
+        which,
+        q,
+        drag,
+        n,
+        p,
+        f,
+        e,
+        scratch,
+        &mut poses,
+        &mut frames,
+        &mut errors,
+        &mut converged,
+    );
+    outputs_right(fd, s, number, want, &poses, &frames, &errors, converged)
+}
+
+// As many doubles of scratch and of each output are lent as the call says.
+pub fn solve_right(fd: i32, s: &[u8], scratch: &mut [f64], c: Call) -> bool {
+    if c.number > 0xFFFF || c.scratch > scratch.len() as u64 {
+        return false;
+    }
+    if c.first > 1024 || c.second > 1024 || c.third > 256 {
+        return false;
+    }
+    let q = c.chosen;
+    solved_right(
+        fd,
+        s,
+        c.which,
+        q,
+        c.number as u16,
+        c.scratch as usize,
+        c.first as usize,
+        c.second as usize,
+        c.third as usize,
+        scratch,
+        c.want,
+    )
 }
 
 // Whether a number and the outputs are the list's answer to `dof`.
@@ -152,18 +207,35 @@ fn freedoms_right(fd: i32, s: &[u8], number: u32, want: u64, freedoms: &[f64], f
     holds(fd, freedoms, 29 * m) & (free as u64 == total)
 }
 
-fn dof_lent(fd: i32, s: &[u8], scratch: &mut [f64], freedoms: &mut [f64], c: Call) -> bool {
-    if c.scratch > scratch.len() as u64 || c.first > freedoms.len() as u64 {
-        return false;
-    }
-    let n = c.scratch as usize;
-    let f = c.first as usize;
-    let mut free = 777u32;
-    let number = sheet_dof(s, &mut scratch[0..n], &mut freedoms[0..f], &mut free);
-    freedoms_right(fd, s, number, c.want, freedoms, free)
+// The first n doubles of scratch and f of freedoms are lent.
+fn dof_lent(
+    s: &[u8],
+    n: usize,
+    f: usize,
+    scratch: &mut [f64],
+    freedoms: &mut [f64],
+    free: &mut u32,
+) -> u32
+    requires { ⌜ n ≤ length (now scratch) ⌝ }
+    requires { ⌜ f ≤ length (now freedoms) ⌝ }
+{
+    sheet_dof(s, &mut scratch[0..n], &mut freedoms[0..f], free)
 }
 
-pub fn dof_right(fd: i32, s: &[u8], scratch: &mut [f64], c: Call) -> bool {
+fn freed_right(fd: i32, s: &[u8], n: usize, f: usize, scratch: &mut [f64], want: u64) -> bool
+    requires { ⌜ n ≤ length (now scratch) ⌝ }
+    requires { ⌜ f ≤ 2048 ⌝ }
+{
     let mut freedoms = [BEFORE; 2048];
-    dof_lent(fd, s, scratch, &mut freedoms, c)
+    let mut free = 777u32;
+    let number = dof_lent(s, n, f, scratch, &mut freedoms, &mut free);
+    freedoms_right(fd, s, number, want, &freedoms, free)
+}
+
+// As many doubles of scratch and of freedoms are lent as the call says.
+pub fn dof_right(fd: i32, s: &[u8], scratch: &mut [f64], c: Call) -> bool {
+    if c.scratch > scratch.len() as u64 || c.first > 2048 {
+        return false;
+    }
+    freed_right(fd, s, c.scratch as usize, c.first as usize, scratch, c.want)
 }
