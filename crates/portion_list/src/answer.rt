@@ -1,13 +1,9 @@
 // Whether what a call gives and leaves is the list's answer. On acceptance the outputs begin with the list's next words, and the rest is as before; on refusal all
-// that was lent is as before.
+// that was lent is as before. No contract says what a file holds, so whether an answer is the list's is open.
 
-ghost use Prim.Native.Nat.{_<_};
+ghost use Prim.Native.Nat.{_≤_, _<_};
 use crate::asked::BEFORE;
-use crate::asked::Call;
-use crate::asked::Running;
-use crate::asked::at_most;
 use crate::solving::Values;
-use crate::solving::values_before;
 use lists::answers::same;
 use lists::list::word;
 use numbers::bits;
@@ -34,11 +30,9 @@ fn values_right(fd: i32, v: Values) -> bool {
 }
 
 fn values_equal(v: Values, w: Values) -> bool {
-    v.unknowns == w.unknowns
-        && v.rows == w.rows
-        && v.done == w.done
-        && v.run == w.run
-        && v.converged == w.converged
+    (v.unknowns == w.unknowns)
+        & ((v.rows == w.rows)
+            & ((v.done == w.done) & ((v.run == w.run) & (v.converged == w.converged))))
 }
 
 // The count at o in the head of a sheet; 0 if the list has a refusal.
@@ -71,44 +65,45 @@ fn outputs_right(
     p & f & e
 }
 
-// Whether the whole numbers and the state's memory are as before a call.
-fn kept(fd: i32, c: Call, before: Running, v: Values, state: &[f64; 256]) -> bool {
-    let doubles = before.doubles;
-    let w = values_before(c, before.done, before.run);
-    holds(fd, state, &doubles, 0) && values_equal(v, w)
-}
-
-// Whether the state's memory begins with the list's next words; if the call refused, it and the whole numbers are also as before.
-fn state_right(fd: i32, c: Call, n: usize, before: Running, v: Values, state: &[f64; 256]) -> bool {
-    let doubles = before.doubles;
-    let right = holds(fd, state, &doubles, n);
+// Whether the state's memory begins with the list's next n words; if the call refused, it and the whole numbers are also as before, w.
+fn state_right(
+    fd: i32,
+    n: usize,
+    before: &[f64; 256],
+    w: Values,
+    v: Values,
+    state: &[f64; 256],
+) -> bool {
+    let right = holds(fd, state, before, n);
     if v.number == 0 {
         return right;
     }
-    right & kept(fd, c, before, v, state)
+    right & holds(fd, state, before, 0) & values_equal(v, w)
 }
 
+// n doubles of the state are lent, and before and w are what it and the whole numbers were before the call.
 pub fn answer_right(
     fd: i32,
     s: &[u8],
-    c: Call,
-    before: Running,
+    n: usize,
+    before: &[f64; 256],
+    w: Values,
     v: Values,
     state: &[f64; 256],
     poses: &[f64; 256],
     frames: &[f64; 256],
     errors: &[f64; 256],
-) -> bool {
+) -> bool
+    requires { ⌜ n ≤ 256 ⌝ }
+{
     let words = word(fd);
     let want = word(fd);
     let m = count(s, 2, want);
     let k = count(s, 4, want);
-    let l = c.lengths;
-    let n = at_most(l.state, 256);
     let whole = words == (6 + n + 24 * m + k) as u64;
     let number = v.number as u64 == want;
     let values = values_right(fd, v);
-    let held = state_right(fd, c, n, before, v, state);
+    let held = state_right(fd, n, before, w, v, state);
     let outputs = outputs_right(fd, 12 * m, k, poses, frames, errors);
     whole & number & values & held & outputs
 }

@@ -1,6 +1,9 @@
-// A call as the list gives it, and the running state that it is given.
+// A call as the list gives it, and the running state that it is given. specs/Asked.antt has what is made of its numbers; what
+// is read is open, since no contract says what a file holds.
 
+ghost use mathlib.Core.Path.{_≡_};
 ghost use Prim.Native.Nat.{_≤_};
+ghost use Rattle.portion_list.specs.Asked as spec;
 use lists::list::double;
 use lists::list::read;
 use lists::list::word;
@@ -97,7 +100,7 @@ pub fn next_call(fd: i32) -> Call {
 
 // n, or most if that is less.
 pub fn at_most(n: u64, most: usize) -> usize
-    ensures { λ r. ⌜ r ≤ most ⌝ }
+    ensures { λ r. ⌜ (r ≡ spec.atMost n most) × (r ≤ most) ⌝ }
 {
     if n > most as u64 { most } else { n as usize }
 }
@@ -119,30 +122,32 @@ pub fn next_running(fd: i32, given: u64, left: Running) -> Running {
     }
 }
 
-fn lengths_fit(l: Lengths, given: u64) -> bool {
-    given >= 1
-        && given <= 256
-        && l.state <= given
-        && l.scratch <= 4096
-        && l.poses <= 256
-        && l.frames <= 256
-        && l.errors <= 256
+fn lengths_fit(l: Lengths, given: u64) -> bool
+    ensures { λ r. ⌜ r ≡ spec.lengthsFit l given ⌝ }
+{
+    (1 <= given)
+        & ((given <= 256)
+            & ((l.state <= given)
+                & ((l.scratch <= 4096)
+                    & ((l.poses <= 256) & ((l.frames <= 256) & (l.errors <= 256))))))
 }
 
-fn counts_fit(c: Call, q: Chosen) -> bool {
-    c.which <= 1
-        && c.drag <= 0xFFFF
-        && q.rounds <= 0xFFFF_FFFF
-        && q.limit <= 0xFFFF_FFFF
-        && c.portion <= 0xFFFF_FFFF
-        && c.unknowns <= 0xFFFF_FFFF
-        && c.rows <= 0xFFFF_FFFF
+fn counts_fit(c: Call, q: Chosen) -> bool
+    ensures { λ r. ⌜ r ≡ spec.countsFit c q ⌝ }
+{
+    (c.which <= 1)
+        & ((c.drag <= 0xFFFF)
+            & ((q.rounds <= 0xFFFF_FFFF)
+                & ((q.limit <= 0xFFFF_FFFF)
+                    & ((c.portion <= 0xFFFF_FFFF)
+                        & ((c.unknowns <= 0xFFFF_FFFF) & (c.rows <= 0xFFFF_FFFF))))))
 }
 
-// Whether each number of a call can be handed over as it stands, and what is lent is there to lend.
-pub fn fits(c: Call, r: Running) -> bool {
-    counts_fit(c, c.chosen)
-        && lengths_fit(c.lengths, r.given)
-        && r.done <= 0xFFFF_FFFF
-        && r.run <= 0xFF
+// Whether each number of a call can be handed over as it stands, and what is lent is there to lend: of the running state, the doubles given, the rounds done and the run.
+pub fn fits(c: Call, given: u64, done: u64, run: u64) -> bool
+    ensures { λ r. ⌜ r ≡ spec.fits c given done run ⌝ }
+{
+    let counts = counts_fit(c, c.chosen);
+    let lengths = lengths_fit(c.lengths, given);
+    counts & (lengths & ((done <= 0xFFFF_FFFF) & (run <= 0xFF)))
 }

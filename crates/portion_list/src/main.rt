@@ -7,14 +7,20 @@ mod solving;
 
 use answer::answer_right;
 use asked::BEFORE;
+use asked::Lengths;
 use asked::Running;
+use asked::at_most;
 use asked::fits;
 use asked::next_call;
 use asked::next_running;
 use lists::answers::counted;
 use lists::list;
 use lists::list::word;
+use solving::Arguments;
+use solving::Values;
+use solving::arguments_of;
 use solving::solved;
+use solving::values_before;
 use std::num::wrapping_add_u64;
 
 struct Tally {
@@ -28,39 +34,60 @@ struct Outcome {
     running: Running,
 }
 
-// A call of a schedule, from the running state that the call before left.
-fn call(fd: i32, s: &[u8], scratch: &mut [f64; 4096], left: Running) -> Outcome {
-    let c = next_call(fd);
-    let before = next_running(fd, c.given, left);
-    if !fits(c, before) {
-        return Outcome {
-            right: false,
-            running: before,
-        };
-    }
-    let mut state = before.doubles;
+// A call that fits: `doubles`, of which the list gave so many, and `w` are what the state's memory and the whole numbers are before it.
+fn answered(
+    fd: i32,
+    s: &[u8],
+    which: u64,
+    q: Arguments,
+    w: Values,
+    l: Lengths,
+    scratch: &mut [f64; 4096],
+    given: u64,
+    doubles: [f64; 256],
+) -> Outcome {
+    let mut state = doubles;
     let mut poses = [BEFORE; 256];
     let mut frames = [BEFORE; 256];
     let mut errors = [BEFORE; 256];
     let v = solved(
         s,
-        c,
-        before.done,
-        before.run,
+        which,
+        q,
+        w,
+        l,
         scratch,
         &mut state,
         &mut poses,
         &mut frames,
         &mut errors,
     );
-    let right = answer_right(fd, s, c, before, v, &state, &poses, &frames, &errors);
+    let n = at_most(l.state, 256);
+    let right = answer_right(fd, s, n, &doubles, w, v, &state, &poses, &frames, &errors);
     let running = Running {
         done: v.done as u64,
         run: v.run as u64,
-        given: before.given,
+        given,
         doubles: state,
     };
     Outcome { right, running }
+}
+
+// A call of a schedule, from the running state that the call before left.
+fn call(fd: i32, s: &[u8], scratch: &mut [f64; 4096], left: Running) -> Outcome {
+    let c = next_call(fd);
+    let before = next_running(fd, c.given, left);
+    if !fits(c, before.given, before.done, before.run) {
+        return Outcome {
+            right: false,
+            running: before,
+        };
+    }
+    let q = arguments_of(c);
+    let w = values_before(c.unknowns, c.rows, before.done, before.run);
+    let l = c.lengths;
+    let doubles = before.doubles;
+    answered(fd, s, c.which, q, w, l, scratch, before.given, doubles)
 }
 
 // The calls of a schedule.

@@ -1,18 +1,22 @@
-// Solving by rounds, as a call of the list asks for it.
+// Solving by rounds, as a call of the list asks for it. specs/Asked.antt has the definition of what is handed over.
 
+ghost use mathlib.Core.Path.{_≡_};
+ghost use Prim.Native.Nat.{_%_, _^_};
+ghost use Rattle.portion_list.specs.Asked as spec;
 use crate::asked::Call;
+use crate::asked::Lengths;
 use crate::asked::at_most;
 use sheet::going::sheet_solve_begin;
 use sheet::going::sheet_solve_on;
 
 // The drag, the set and the portion as a call takes them.
-struct Arguments {
-    drag: u16,
-    tolerance: f64,
-    rounds: u32,
-    limit: u32,
-    weight: f64,
-    portion: u32,
+pub struct Arguments {
+    pub drag: u16,
+    pub tolerance: f64,
+    pub rounds: u32,
+    pub limit: u32,
+    pub weight: f64,
+    pub portion: u32,
 }
 
 // The number that a call gives, and what the whole numbers are that are handed over or lent to it.
@@ -26,11 +30,13 @@ pub struct Values {
 }
 
 // What they are before a call, and no number yet; the flag is 77.
-pub fn values_before(c: Call, done: u64, run: u64) -> Values {
+pub fn values_before(unknowns: u64, rows: u64, done: u64, run: u64) -> Values
+    ensures { λ r. ⌜ r ≡ spec.valuesBefore unknowns rows done run ⌝ }
+{
     Values {
         number: 0,
-        unknowns: low(c.unknowns),
-        rows: low(c.rows),
+        unknowns: low(unknowns),
+        rows: low(rows),
         done: low(done),
         run: (run % 0x100) as u8,
         converged: 77,
@@ -38,11 +44,13 @@ pub fn values_before(c: Call, done: u64, run: u64) -> Values {
 }
 
 // Of a call that fits nothing is cut off.
-fn low(n: u64) -> u32 {
+fn low(n: u64) -> u32
+    ensures { λ r. ⌜ r ≡ n % 2 ^ 32 ⌝ }
+{
     (n % 0x1_0000_0000) as u32
 }
 
-fn arguments_of(c: Call) -> Arguments {
+pub fn arguments_of(c: Call) -> Arguments {
     let q = c.chosen;
     Arguments {
         drag: (c.drag % 0x1_0000) as u16,
@@ -140,10 +148,11 @@ fn gone_on(
     }
 }
 
-// The call that the list asks for.
+// The call that the list asks for, 0 for beginning.
 fn either(
     s: &[u8],
-    c: Call,
+    which: u64,
+    q: Arguments,
     v: Values,
     scratch: &mut [f64],
     state: &mut [f64],
@@ -151,8 +160,7 @@ fn either(
     frames: &mut [f64],
     errors: &mut [f64],
 ) -> Values {
-    let q = arguments_of(c);
-    if c.which == 0 {
+    if which == 0 {
         return begun(s, q, v, scratch, state, poses, frames, errors);
     }
     gone_on(s, q, v, scratch, state, poses, frames, errors)
@@ -161,16 +169,16 @@ fn either(
 // As many doubles are lent as the call says.
 pub fn solved(
     s: &[u8],
-    c: Call,
-    done: u64,
-    run: u64,
+    which: u64,
+    q: Arguments,
+    v: Values,
+    l: Lengths,
     scratch: &mut [f64],
     state: &mut [f64],
     poses: &mut [f64],
     frames: &mut [f64],
     errors: &mut [f64],
 ) -> Values {
-    let l = c.lengths;
     let n = at_most(l.scratch, scratch.len());
     let t = at_most(l.state, state.len());
     let p = at_most(l.poses, poses.len());
@@ -178,8 +186,9 @@ pub fn solved(
     let e = at_most(l.errors, errors.len());
     either(
         s,
-        c,
-        values_before(c, done, run),
+        which,
+        q,
+        v,
         &mut scratch[0..n],
         &mut state[0..t],
         &mut poses[0..p],
