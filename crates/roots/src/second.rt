@@ -1,4 +1,7 @@
 // A second root of a double, built otherwise than `arcs::root`: in doubles, by Heron's rule and a correction by the exact remainder.
+// specs/Second.antt has the definitions.
+ghost use mathlib.Core.Path.{_≡_};
+ghost use Rattle.roots.specs.Second as spec;
 
 // x as a * s^2, s a power of two
 struct Scaled {
@@ -7,7 +10,9 @@ struct Scaled {
 }
 
 // A large a by w^2 smaller, a small a by w^2 larger.
-fn lowered(v: Scaled, w: f64) -> Scaled {
+fn lowered(v: Scaled, w: f64) -> Scaled
+    ensures { λ r. ⌜ r ≡ spec.lowered v w ⌝ }
+{
     let w2 = w * w;
     if v.a >= w2 {
         Scaled {
@@ -19,7 +24,9 @@ fn lowered(v: Scaled, w: f64) -> Scaled {
     }
 }
 
-fn raised(v: Scaled, w: f64) -> Scaled {
+fn raised(v: Scaled, w: f64) -> Scaled
+    ensures { λ r. ⌜ r ≡ spec.raised v w ⌝ }
+{
     let w2 = w * w;
     if v.a * w2 < 4.0 {
         Scaled {
@@ -40,14 +47,23 @@ const W64: f64 = 18446744073709551616.0;
 
 const W32: f64 = 4294967296.0;
 
-// x with a from 1 up to 4
-fn into_range(x: f64) -> Scaled {
+// x with a below 4
+fn lowest(x: f64) -> Scaled
+    ensures { λ r. ⌜ r ≡ spec.lowest x ⌝ }
+{
     let v = Scaled { a: x, s: 1.0 };
     let v = lowered(lowered(lowered(lowered(v, W256), W128), W64), W32);
-    let v = lowered(
+    lowered(
         lowered(lowered(lowered(lowered(v, 65536.0), 256.0), 16.0), 4.0),
         2.0,
-    );
+    )
+}
+
+// x with a from 1 up to 4
+fn into_range(x: f64) -> Scaled
+    ensures { λ r. ⌜ r ≡ spec.intoRange x ⌝ }
+{
+    let v = lowest(x);
     let v = raised(
         raised(raised(raised(raised(v, W256), W256), W128), W64),
         W32,
@@ -59,21 +75,32 @@ fn into_range(x: f64) -> Scaled {
 }
 
 // one turn of Heron's rule
-fn heron(a: f64, r: f64) -> f64 {
+fn heron(a: f64, r: f64) -> f64
+    ensures { λ w. ⌜ w ≡ spec.heron a r ⌝ }
+{
     (r + a / r) * 0.5
 }
 
 // 2^-52, the distance of the doubles from 1 to 2
 const STEP: f64 = 2.220446049250313e-16;
 
-// r or its neighbour, whichever is nearer to the root of a, for an r from 1 to 2: r * r is p + e exactly, each part of r having 26 digits.
-fn corrected(a: f64, r: f64) -> f64 {
+// a less r * r, which is p + e exactly, each part of r having 26 digits.
+fn left(a: f64, r: f64) -> f64
+    ensures { λ d. ⌜ d ≡ spec.left a r ⌝ }
+{
     let c = r * 134217729.0;
     let high = c - (c - r);
     let low = r - high;
     let p = r * r;
     let e = high * high - p + 2.0 * high * low + low * low;
-    let d = a - p - e;
+    a - p - e
+}
+
+// r or its neighbour, whichever is nearer to the root of a, for an r from 1 to 2.
+fn corrected(a: f64, r: f64) -> f64
+    ensures { λ w. ⌜ w ≡ spec.corrected a r ⌝ }
+{
+    let d = left(a, r);
     if d > r * STEP {
         r + STEP
     } else if d <= -(r * STEP) {
@@ -83,14 +110,18 @@ fn corrected(a: f64, r: f64) -> f64 {
     }
 }
 
-fn above_zero(x: f64) -> f64 {
+fn above_zero(x: f64) -> f64
+    ensures { λ r. ⌜ r ≡ spec.aboveZero x ⌝ }
+{
     let v = into_range(x);
     let a = v.a;
     let r = heron(a, heron(a, heron(a, heron(a, heron(a, heron(a, 1.5))))));
     corrected(a, corrected(a, r)) * v.s
 }
 
-pub fn second_root(x: f64) -> f64 {
+pub fn second_root(x: f64) -> f64
+    ensures { λ r. ⌜ r ≡ spec.secondRoot x ⌝ }
+{
     if x == 0.0 {
         return x;
     }

@@ -1,53 +1,23 @@
--- `roots::cases::halfways` is safe and ends: its turns are counted. Assumes nothing.
-use Prim.Native.Nat.{_-_, _≤_}
+-- `roots::cases::halfways` meets its contract. The invariant: the first k are compared, in turn. Assumes nothing.
+use mathlib.Core.Path.{_≡_, sym}
+use Prim.Native.Nat.{ℕ, _-_, _≤_}
 use native.Mathlib.Omega.{arith}
+use Rattle.roots.specs.Cases.{inTurn, fourHalfways}
+use Rattle.roots.proofs.InTurn.{turn-next, turn-none}
 use Rattle.roots.proofs.cases.halfways.Statement.{statement}
 use Rattle.roots.proofs.cases.halfways.Tie as tie
 
 abbrev Inv-loop : tie.InvT-loop
-Inv-loop t₀ k₀ t k = k ≤ 2048
+Inv-loop t₀ k₀ t k = (k ≤ 2048) × (t ≡ inTurn k fourHalfways t₀)
 
 abbrev μ-loop : tie.MeasureT-loop
 μ-loop t₀ k₀ t k = 2048 - k
 
 loop-holds : tie.Need-loop-holds Inv-loop μ-loop
-loop-holds c = omega arith
+loop-holds c = (omega arith, sym (turn-none _ _))
 
-mul-one-halfway : tie.Need-mul-one-halfway Inv-loop μ-loop
-mul-one-halfway c = omega arith
-
-one-halfway-requires : tie.Need-one-halfway-requires Inv-loop μ-loop
-one-halfway-requires c κs = tt
-
-mul-one-halfway-2 : tie.Need-mul-one-halfway-2 Inv-loop μ-loop
-mul-one-halfway-2 c = omega arith
-
-one-halfway-requires-2 : tie.Need-one-halfway-requires-2 Inv-loop μ-loop
-one-halfway-requires-2 c κs = tt
-
-sub-one-halfway : tie.Need-sub-one-halfway Inv-loop μ-loop
-sub-one-halfway c = omega arith
-
-mul-one-halfway-3 : tie.Need-mul-one-halfway-3 Inv-loop μ-loop
-mul-one-halfway-3 c = omega arith
-
-sub-one-halfway-2 : tie.Need-sub-one-halfway-2 Inv-loop μ-loop
-sub-one-halfway-2 c = omega arith
-
-one-halfway-requires-3 : tie.Need-one-halfway-requires-3 Inv-loop μ-loop
-one-halfway-requires-3 c κs = tt
-
-sub-one-halfway-3 : tie.Need-sub-one-halfway-3 Inv-loop μ-loop
-sub-one-halfway-3 c = omega arith
-
-mul-one-halfway-4 : tie.Need-mul-one-halfway-4 Inv-loop μ-loop
-mul-one-halfway-4 c = omega arith
-
-sub-one-halfway-4 : tie.Need-sub-one-halfway-4 Inv-loop μ-loop
-sub-one-halfway-4 c = omega arith
-
-one-halfway-requires-4 : tie.Need-one-halfway-requires-4 Inv-loop μ-loop
-one-halfway-requires-4 c κs = tt
+four-halfways-requires : tie.Need-four-halfways-requires Inv-loop μ-loop
+four-halfways-requires c κs = omega arith
 
 add-k : tie.Need-add-k Inv-loop μ-loop
 add-k c = omega arith
@@ -56,10 +26,11 @@ loop-less : tie.Need-loop-less Inv-loop μ-loop
 loop-less c = omega arith
 
 loop-again : tie.Need-loop-again Inv-loop μ-loop
-loop-again c = omega arith
+loop-again c =
+    (omega arith, rw (turn-next fourHalfways _ _, sym (c .before .before .loop .inv .1), c .four-halfways .ensures))
 
 returns : tie.Need-returns Inv-loop μ-loop
-returns c = tt
+returns c = let e : _≡_ {A = ℕ} (c .before .loop .k) 2048 = omega arith in rw e at (c .before .loop .inv .1)
 
 pub halfways-spec : {M : Type 1} → statement M
 halfways-spec =
@@ -68,18 +39,7 @@ halfways-spec =
     Inv-loop
     μ-loop
     loop-holds
-    mul-one-halfway
-    one-halfway-requires
-    mul-one-halfway-2
-    one-halfway-requires-2
-    sub-one-halfway
-    mul-one-halfway-3
-    sub-one-halfway-2
-    one-halfway-requires-3
-    sub-one-halfway-3
-    mul-one-halfway-4
-    sub-one-halfway-4
-    one-halfway-requires-4
+    four-halfways-requires
     add-k
     loop-less
     loop-again

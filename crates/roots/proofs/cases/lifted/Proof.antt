@@ -1,32 +1,27 @@
--- `roots::cases::lifted` is safe and ends: its turns are counted. Assumes nothing.
-use Prim.Native.Nat.{_-_, _≤_}
+-- `roots::cases::lifted` meets its contract. The invariant: c has the first i + 1 digits. Assumes nothing.
+use Prim.Native.Nat.{ℕ, _-_, _≤_}
 use native.Mathlib.Omega.{arith}
+use mathlib.Core.Path.{_≡_, refl, sym}
+use Rattle.roots.specs.Cases.{digits, lifted}
+use Rattle.roots.proofs.InTurn.{digit-next}
 use Rattle.roots.proofs.cases.lifted.Statement.{statement}
 use Rattle.roots.proofs.cases.lifted.Tie as tie
 
 abbrev Inv-loop : tie.InvT-loop
-Inv-loop s last c₀ i₀ c i = i ≤ 52
+Inv-loop s last c₀ i₀ c i = (i ≤ 51) × (c ≡ digits s last i)
 
 abbrev μ-loop : tie.MeasureT-loop
-μ-loop s last c₀ i₀ c i = 52 - i
+μ-loop s last c₀ i₀ c i = 51 - i
 
 loop-holds : tie.Need-loop-holds Inv-loop μ-loop
-loop-holds c = omega arith
+unfolding digits
+loop-holds c = (omega arith, refl)
 
-square-low-requires : tie.Need-square-low-requires Inv-loop μ-loop
-square-low-requires c κs = tt
+add-digit : tie.Need-add-digit Inv-loop μ-loop
+add-digit c = omega arith
 
-add-if1 : tie.Need-add-if1 Inv-loop μ-loop
-add-if1 c = omega arith
-
-add-if1-2 : tie.Need-add-if1-2 Inv-loop μ-loop
-add-if1-2 c = omega arith
-
-shr-if1 : tie.Need-shr-if1 Inv-loop μ-loop
-shr-if1 c = omega arith
-
-shl-c : tie.Need-shl-c Inv-loop μ-loop
-shl-c c = omega arith
+digit-requires : tie.Need-digit-requires Inv-loop μ-loop
+digit-requires c κs = omega arith
 
 add-i : tie.Need-add-i Inv-loop μ-loop
 add-i c = omega arith
@@ -35,10 +30,13 @@ loop-less : tie.Need-loop-less Inv-loop μ-loop
 loop-less c = omega arith
 
 loop-again : tie.Need-loop-again Inv-loop μ-loop
-loop-again c = omega arith
+loop-again c = (omega arith, rw (digit-next _ _ _, sym (c .before .before .loop .inv .1), c .digit .ensures))
 
 returns : tie.Need-returns Inv-loop μ-loop
-returns c = omega arith
+unfolding lifted
+returns c =
+    let e : _≡_ {A = ℕ} (c .before .loop .i) 51 = omega arith in
+    (rw (c .before .loop .inv .1, e), omega arith)
 
 pub lifted-spec : {M : Type 1} → statement M
 lifted-spec =
@@ -47,11 +45,8 @@ lifted-spec =
     Inv-loop
     μ-loop
     loop-holds
-    square-low-requires
-    add-if1
-    add-if1-2
-    shr-if1
-    shl-c
+    add-digit
+    digit-requires
     add-i
     loop-less
     loop-again

@@ -1,47 +1,27 @@
--- `roots::cases::one_exponent` is safe and ends: its turns are counted. Assumes nothing.
-use Prim.Native.Nat.{_-_, _≤_}
+-- `roots::cases::one_exponent` meets its contract. The invariant: k random doubles are compared, in turn.
+-- Assumes nothing.
+use mathlib.Core.Path.{_≡_, sym}
+use Prim.Native.Nat.{ℕ, _-_, _≤_}
 use native.Mathlib.Omega.{arith}
+use Rattle.roots.specs.Cases.{inTurn, oneRandom, oneExponent}
+use Rattle.roots.proofs.InTurn.{turn-next, turn-none}
 use Rattle.roots.proofs.cases.one_exponent.Statement.{statement}
 use Rattle.roots.proofs.cases.one_exponent.Tie as tie
 
 abbrev Inv-loop : tie.InvT-loop
-Inv-loop field t₀ k₀ t k = k ≤ 24
+Inv-loop field t₀ k₀ t k = (k ≤ 24) × (t ≡ inTurn k (λ k u. oneRandom field u) t₀)
 
 abbrev μ-loop : tie.MeasureT-loop
 μ-loop field t₀ k₀ t k = 24 - k
 
-put-requires : tie.Need-put-requires Inv-loop μ-loop
-put-requires c κs = tt
-
-compare-around-requires : tie.Need-compare-around-requires Inv-loop μ-loop
-compare-around-requires c κs = tt
-
-put-requires-2 : tie.Need-put-requires-2 Inv-loop μ-loop
-put-requires-2 c κs = tt
-
-compare-around-requires-2 : tie.Need-compare-around-requires-2 Inv-loop μ-loop
-compare-around-requires-2 c κs = tt
-
-sub-put : tie.Need-sub-put Inv-loop μ-loop
-sub-put c = omega arith
-
-put-requires-3 : tie.Need-put-requires-3 Inv-loop μ-loop
-put-requires-3 c κs = tt
-
-compare-around-requires-3 : tie.Need-compare-around-requires-3 Inv-loop μ-loop
-compare-around-requires-3 c κs = tt
+ends-requires : tie.Need-ends-requires Inv-loop μ-loop
+ends-requires c κs = tt
 
 loop-holds : tie.Need-loop-holds Inv-loop μ-loop
-loop-holds c = omega arith
+loop-holds c = (omega arith, sym (turn-none _ _))
 
-next-requires : tie.Need-next-requires Inv-loop μ-loop
-next-requires c κs = tt
-
-put-requires-4 : tie.Need-put-requires-4 Inv-loop μ-loop
-put-requires-4 c κs = tt
-
-compare-bits-requires : tie.Need-compare-bits-requires Inv-loop μ-loop
-compare-bits-requires c κs = tt
+one-random-requires : tie.Need-one-random-requires Inv-loop μ-loop
+one-random-requires c κs = tt
 
 add-k : tie.Need-add-k Inv-loop μ-loop
 add-k c = omega arith
@@ -50,10 +30,21 @@ loop-less : tie.Need-loop-less Inv-loop μ-loop
 loop-less c = omega arith
 
 loop-again : tie.Need-loop-again Inv-loop μ-loop
-loop-again c = omega arith
+loop-again c =
+    let field = c .before .before .before .before .args .field in (
+      omega arith,
+      rw (
+        turn-next (λ k u. oneRandom field u) _ _,
+        sym (c .before .before .loop .inv .1),
+        c .one-random .ensures,
+      ),
+    )
 
 returns : tie.Need-returns Inv-loop μ-loop
-returns c = tt
+unfolding oneExponent
+returns c =
+    let e : _≡_ {A = ℕ} (c .before .loop .k) 24 = omega arith in
+    rw (c .before .loop .inv .1, e, c .before .before .ends .ensures)
 
 pub one-exponent-spec : {M : Type 1} → statement M
 one-exponent-spec =
@@ -61,17 +52,9 @@ one-exponent-spec =
     (tie.spec
     Inv-loop
     μ-loop
-    put-requires
-    compare-around-requires
-    put-requires-2
-    compare-around-requires-2
-    sub-put
-    put-requires-3
-    compare-around-requires-3
+    ends-requires
     loop-holds
-    next-requires
-    put-requires-4
-    compare-bits-requires
+    one-random-requires
     add-k
     loop-less
     loop-again

@@ -1,4 +1,5 @@
 -- `roots::cases::product` meets its contract: two numbers below 2 ^ 26. Assumes nothing.
+use mathlib.Core.Path.{refl}
 use native.Mathlib.Nat.{le-of-lt, lt-of-le-of-lt, mul-le-mul-left, mul-lt-mul-of-pos-right}
 use Prim.Native.Nat.{ℕ, _*_, _^_, _<_}
 use native.Mathlib.Omega.{arith}
@@ -13,7 +14,7 @@ mul-result : tie.Need-mul-result
 mul-result c = omega (arith, below (c .args .a) (c .args .b) (c .pre .0) (c .pre .1))
 
 returns : tie.Need-returns
-returns c = below (c .args .a) (c .args .b) (c .pre .0) (c .pre .1)
+returns c = (refl, below (c .args .a) (c .args .b) (c .pre .0) (c .pre .1))
 
 pub product-spec : {M : Type 1} → statement M
 product-spec = tie.close (tie.spec mul-result returns)

@@ -1,44 +1,23 @@
--- `roots::cases::subnormals` is safe and ends: its turns are counted. Assumes nothing.
-use Prim.Native.Nat.{_-_, _≤_}
+-- `roots::cases::subnormals` meets its contract. The invariant: the first k are compared, in turn. Assumes nothing.
+use mathlib.Core.Path.{_≡_, sym}
+use Prim.Native.Nat.{ℕ, _-_, _/_, _≤_}
 use native.Mathlib.Omega.{arith}
+use Rattle.roots.specs.Cases.{inTurn, oneSubnormal}
+use Rattle.roots.proofs.InTurn.{turn-next, turn-none}
 use Rattle.roots.proofs.cases.subnormals.Statement.{statement}
 use Rattle.roots.proofs.cases.subnormals.Tie as tie
 
 abbrev Inv-loop : tie.InvT-loop
-Inv-loop t₀ k₀ t k = k ≤ 4096
+Inv-loop t₀ k₀ t k = (k ≤ 4096) × (t ≡ inTurn k oneSubnormal t₀)
 
 abbrev μ-loop : tie.MeasureT-loop
 μ-loop t₀ k₀ t k = 4096 - k
 
 loop-holds : tie.Need-loop-holds Inv-loop μ-loop
-loop-holds c = omega arith
+loop-holds c = (omega arith, sym (turn-none _ _))
 
-put-requires : tie.Need-put-requires Inv-loop μ-loop
-put-requires c κs = tt
-
-compare-bits-requires : tie.Need-compare-bits-requires Inv-loop μ-loop
-compare-bits-requires c κs = tt
-
-sub-put : tie.Need-sub-put Inv-loop μ-loop
-sub-put c = omega arith
-
-sub-put-2 : tie.Need-sub-put-2 Inv-loop μ-loop
-sub-put-2 c = omega arith
-
-put-requires-2 : tie.Need-put-requires-2 Inv-loop μ-loop
-put-requires-2 c κs = tt
-
-compare-bits-requires-2 : tie.Need-compare-bits-requires-2 Inv-loop μ-loop
-compare-bits-requires-2 c κs = tt
-
-next-requires : tie.Need-next-requires Inv-loop μ-loop
-next-requires c κs = tt
-
-shr-compare-bits : tie.Need-shr-compare-bits Inv-loop μ-loop
-shr-compare-bits c = omega arith
-
-compare-bits-requires-3 : tie.Need-compare-bits-requires-3 Inv-loop μ-loop
-compare-bits-requires-3 c κs = tt
+one-subnormal-requires : tie.Need-one-subnormal-requires Inv-loop μ-loop
+one-subnormal-requires c κs = omega arith
 
 add-k : tie.Need-add-k Inv-loop μ-loop
 add-k c = omega arith
@@ -47,28 +26,13 @@ loop-less : tie.Need-loop-less Inv-loop μ-loop
 loop-less c = omega arith
 
 loop-again : tie.Need-loop-again Inv-loop μ-loop
-loop-again c = omega arith
+loop-again c =
+    (omega arith, rw (turn-next oneSubnormal _ _, sym (c .before .before .loop .inv .1), c .one-subnormal .ensures))
 
 returns : tie.Need-returns Inv-loop μ-loop
-returns c = tt
+returns c = let e : _≡_ {A = ℕ} (c .before .loop .k) 4096 = omega arith in rw e at (c .before .loop .inv .1)
 
 pub subnormals-spec : {M : Type 1} → statement M
 subnormals-spec =
     tie.close
-    (tie.spec
-    Inv-loop
-    μ-loop
-    loop-holds
-    put-requires
-    compare-bits-requires
-    sub-put
-    sub-put-2
-    put-requires-2
-    compare-bits-requires-2
-    next-requires
-    shr-compare-bits
-    compare-bits-requires-3
-    add-k
-    loop-less
-    loop-again
-    returns)
+    (tie.spec Inv-loop μ-loop loop-holds one-subnormal-requires add-k loop-less loop-again returns)
