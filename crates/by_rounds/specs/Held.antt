@@ -33,7 +33,8 @@ pub record HeldPut (c : SceneStruct) (p : PartsStruct) (s : List Float) (mu : Fl
   pub first : part state' (1 + c .n) (c .n) ≡ firstIn c p s
   pub rows : part state' (1 + 2 * c .n) (c .rows) ≡ rowsIn c p s
 
--- what a call leaves, having come to the state st by so many rounds: the slices at entry and at exit; what is left in the scratch is open
+-- what a call leaves, having come to the state st by so many rounds: the slices at entry and at exit; what is left in
+-- the scratch is open
 pub record Left (sc : Scene) (q : Parameters) (c : SceneStruct) (st : Running) (made : ℕ) (state state' poses poses' frames frames' errors errors' : List Float) (e : ReachedStruct) : Type 0 where
   pub state-is : state' ≡ stateDoubles st ++ drop (stateSize (c .n) (c .rows)) state
   pub done-is : e .done ≡ st .done

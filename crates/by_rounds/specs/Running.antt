@@ -32,10 +32,12 @@ pub record Stands (c : SceneStruct) (p : PartsStruct) (s t : List Float) (g : Go
   pub size : length t ≡ length s
 
 -- the same after a portion of rounds; as many as r tells were made
-pub record WentBy (c : SceneStruct) (p : PartsStruct) (s t : List Float) (r : PortionStruct) (st : Running) (made : ℕ) : Type 0 where
+pub record WentBy (c : SceneStruct) (p : PartsStruct) (s t : List Float) (r : PortionStruct) (st : Running)
+    (made : ℕ) : Type 0 where
   pub went : Went c p s t (r .going) st
   pub made-is : r .made ≡ made
 
-pub record StandsBy (c : SceneStruct) (p : PartsStruct) (s t : List Float) (r : PortionStruct) (st : Running) (made : ℕ) : Type 0 where
+pub record StandsBy (c : SceneStruct) (p : PartsStruct) (s t : List Float) (r : PortionStruct) (st : Running)
+    (made : ℕ) : Type 0 where
   pub stands : Stands c p s t (r .going) st
   pub made-is : r .made ≡ made

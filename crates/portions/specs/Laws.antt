@@ -47,7 +47,8 @@ Finishes = (s : Scene) (p : Parameters) (drag : Option ℕ) → inRange p ≡ tr
 abbrev pub FinishesInTwoRuns : Type 0
 FinishesInTwoRuns = (s : Scene) (p : Parameters) (drag : Option ℕ) → inRange p ≡ true → (k : ℕ) → 2 * p .rounds ≤ k → Finished s p drag k
 
--- any portions end in one state: two schedules of calls that both have as many rounds as `solve` takes, a call that begins and any number that go on
+-- Any portions end in one state: two schedules, each a call that begins and any number that go on, both with as many
+-- rounds as `solve` takes.
 pub record OneEnd (s : Scene) (p : Parameters) (drag : Option ℕ) (k l : ℕ) (ks ls : List ℕ) : Type 0 where
   pub same : onAll s p drag ks (begin s p drag k) ≡ onAll s p drag ls (begin s p drag l)
   pub run-is : onAll s p drag ks (begin s p drag k) .run ≡ 3
@@ -88,7 +89,8 @@ pub record RetryBegun (s : Scene) (p : Parameters) (st : Running) : Type 0 where
 abbrev pub RetryBegins : Type 0
 RetryBegins = (s : Scene) (p : Parameters) (st : Running) → RetryBegun s p st
 
--- The row limit counts when a run begins: a call comes to the same state by any other limit, unless the retry begins in it. (A finished state stays by any set.)
+-- The row limit counts when a run begins: a call comes to the same state by any other limit, unless the retry begins
+-- in it. (A finished state stays by any set.)
 abbrev pub withLimit : ℕ → Parameters → Parameters
 withLimit limit p = record { tolerance = p .tolerance; rounds = p .rounds; rowLimit = limit; dragWeight = p .dragWeight }
 
@@ -106,7 +108,8 @@ pub record SameByLimit (s : Scene) (p : Parameters) (drag : Option ℕ) (k limit
   pub at-once : st .run ≡ 1 → within s p (st .r) ≡ true → FinishedBy s p drag k limit st st
   -- j rounds leave the first run going on, and it converges with the round after them
   pub later : (j : ℕ) → j < k → on s p drag j st .run ≡ 1
-      → let last = afterRound s (inverseWeights s p drag) (on s p drag j st) in within s p (last .r) ≡ true → FinishedBy s p drag k limit st last
+      → let last = afterRound s (inverseWeights s p drag) (on s p drag j st) in
+      within s p (last .r) ≡ true → FinishedBy s p drag k limit st last
   -- nothing moves, so there is no retry
   pub unmoved : eqb (unknowns s) 0 ≡ true → on s (withLimit limit p) drag k st ≡ on s p drag k st
 
@@ -157,7 +160,8 @@ unfoldable pub more : Scene → Parameters → List Float → ℕ → Running �
 more s p winv zero st = st
 more s p winv (suc k) st = more s p winv k (oneMore s p winv st)
 
--- A portion of k rounds leads from one state to another by just the rounds that it makes. These are at most k, and exactly k where the state that is reached still runs.
+-- A portion of k rounds leads from one state to another by just the rounds that it makes. These are at most k, and
+-- exactly k where the state that is reached still runs.
 pub record PortionMade (s : Scene) (p : Parameters) (winv : List Float) (k : ℕ) (from to : Running) : Type 0 where
   pub led : to ≡ more s p winv (roundsMade s p winv k from) from
   pub few : roundsMade s p winv k from ≤ k

@@ -87,9 +87,12 @@ module _ (s : Scene) (p : Parameters) where
   judge st = cond (isRunning (st .run)) (judged (leb (p .rounds) (st .done) || ltb 800 (rowCount s)) st) st
 
   module _ (winv : List Float) where
-    -- One round; then it is judged whether the run ends: within the tolerance, with nothing better found, or with as many rounds as the set allows.
+    -- One round; then it is judged whether the run ends: within the tolerance, with nothing better found, or with as many
+    -- rounds as the set allows.
     unfoldable pub oneMore : Running → Running
-    oneMore st = let next = afterRound s winv st in judged (not (tried s winv st .better) || leb (p .rounds) (next .done)) next
+    oneMore st =
+        let next = afterRound s winv st in
+        judged (not (tried s winv st .better) || leb (p .rounds) (next .done)) next
 
     -- at most k rounds, those of both runs counted together
     unfoldable pub go : ℕ → Running → Running

@@ -62,8 +62,10 @@ pub record BeginAnswer (s : List ℕ) (p : Parameters) (drag portion r n n' rows
   pub unknowns-are : n' ≡ cond (eqb r 0) (unknowns (sceneAt s)) n
   pub rows-are : rows' ≡ cond (eqb r 0) (rowsIn (sceneAt s)) rows
   pub left : LeftBy s p (begunOn s p drag portion) r done done' run run' state state' scratch scratch' poses poses' frames frames' errors errors' flag flag'
-  -- `portion` rounds unless it finishes, and then at most that; the code's own count is this one (by_rounds' `Left`, `made-is`). `solve` takes at most two runs of the set's.
-  pub portion-made : PortionMade (sceneAt s) p (inverseWeights (sceneAt s) p (dragOf drag)) portion (start (sceneAt s) p) (begunOn s p drag portion)
+  -- `portion` rounds unless it finishes, and then at most that; the code's own count is this one (by_rounds' `Left`,
+  -- `made-is`). `solve` takes at most two runs of the set's.
+  pub portion-made : PortionMade (sceneAt s) p (inverseWeights (sceneAt s) p (dragOf drag)) portion (start (sceneAt s) p)
+      (begunOn s p drag portion)
   pub rounds : roundsOf (sceneAt s) p (dragOf drag) ≤ 2 * p .rounds
   -- a run that it leaves has not ended by its set
   pub judged : r ≡ 0 → Settled (sceneAt s) p (begunOn s p drag portion)
@@ -76,8 +78,10 @@ pub record BeginAnswer (s : List ℕ) (p : Parameters) (drag portion r n n' rows
 pub record OnAnswer (s : List ℕ) (p : Parameters) (drag portion r n rows done done' run run' : ℕ) (state state' scratch scratch' poses poses' frames frames' errors errors' : List Float) (flag flag' : ℕ) : Type 0 where
   pub number : r ≡ onFault s p drag portion n rows (length state) (length scratch) (length poses) (length frames) (length errors)
   pub left : LeftBy s p (goneOn s p drag portion (stateOf s done run state)) r done done' run run' state state' scratch scratch' poses poses' frames frames' errors errors' flag flag'
-  -- `portion` rounds unless it finishes, and then at most that; the code's own count is this one (by_rounds' `Left`, `made-is`). `solve` takes at most two runs of the set's.
-  pub portion-made : PortionMade (sceneAt s) p (inverseWeights (sceneAt s) p (dragOf drag)) portion (judge (sceneAt s) p (stateOf s done run state))
+  -- `portion` rounds unless it finishes, and then at most that; the code's own count is this one (by_rounds' `Left`,
+  -- `made-is`). `solve` takes at most two runs of the set's.
+  pub portion-made : PortionMade (sceneAt s) p (inverseWeights (sceneAt s) p (dragOf drag)) portion
+      (judge (sceneAt s) p (stateOf s done run state))
       (goneOn s p drag portion (stateOf s done run state))
   pub rounds : roundsOf (sceneAt s) p (dragOf drag) ≤ 2 * p .rounds
   -- a run that it leaves has not ended by its set, and a finished state stays
