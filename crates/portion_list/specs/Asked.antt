@@ -5,6 +5,7 @@ use lib.Dec.{leb, ltb}
 use Rattle.portion_list.specs.declared.asked.Call.{Call}
 use Rattle.portion_list.specs.declared.asked.Chosen.{Chosen}
 use Rattle.portion_list.specs.declared.asked.Lengths.{Lengths}
+use Rattle.portion_list.specs.declared.solving.Arguments.{Arguments}
 use Rattle.portion_list.specs.declared.solving.Values.{Values}
 
 -- n, or most if that is less
@@ -27,7 +28,19 @@ abbrev pub fits : Call → ℕ → ℕ → ℕ → Bool
 fits c given done run =
     countsFit c (c .chosen) && (lengthsFit (c .lengths) given && (leb done 0xFFFF_FFFF && leb run 0xFF))
 
--- the whole numbers before a call, cut to their places: of a call that fits nothing is cut off; no number yet, and the flag is 77
+-- what a call hands over by value, each number cut to its place: of a call that fits nothing is cut off
+abbrev pub argumentsOf : Call → Arguments
+argumentsOf c =
+    record {
+      drag = c .drag % 2 ^ 16;
+      tolerance = c .chosen .tolerance;
+      rounds = c .chosen .rounds % 2 ^ 32;
+      limit = c .chosen .limit % 2 ^ 32;
+      weight = c .chosen .weight;
+      portion = c .portion % 2 ^ 32;
+    }
+
+-- the whole numbers before a call, cut likewise; no number yet, and the flag is 77
 abbrev pub valuesBefore : ℕ → ℕ → ℕ → ℕ → Values
 valuesBefore unknowns rows done run =
     record {

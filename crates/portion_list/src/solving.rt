@@ -50,7 +50,9 @@ fn low(n: u64) -> u32
     (n % 0x1_0000_0000) as u32
 }
 
-pub fn arguments_of(c: Call) -> Arguments {
+pub fn arguments_of(c: Call) -> Arguments
+    ensures { λ r. ⌜ r ≡ spec.argumentsOf c ⌝ }
+{
     let q = c.chosen;
     Arguments {
         drag: (c.drag % 0x1_0000) as u16,
