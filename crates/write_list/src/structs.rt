@@ -2,6 +2,8 @@
 
 ghost use Prim.Native.Nat.{_+_, _*_, _≤_};
 ghost use lib.ListN.{length};
+ghost use mathlib.Core.Path.{_≡_};
+ghost use Rattle.write_list.specs.Structs as spec;
 use records::record::body_at;
 use records::record::rel_at;
 use relations::geometry::Prim;
@@ -37,7 +39,9 @@ const MATE: Rel = Rel {
 };
 
 // m bodies like one another and k mates of the ground.
-pub fn plain(m: usize, k: usize) -> Scene {
+pub fn plain(m: usize, k: usize) -> Scene
+    ensures { λ r. ⌜ r ≡ spec.plain m k ⌝ }
+{
     Scene {
         m,
         k,
