@@ -3,6 +3,8 @@
 //
 // A record is four numbers of 8 bytes, little endian: 0 and the bits of t, its sine and its cosine, or 1 and the bits of y, x and their arctangent.
 
+#![tactic(auto)]
+
 use arcs::arc;
 use lists::answers::{counted, same};
 use lists::list::{END, double, word};

@@ -1,5 +1,7 @@
 // The root, sine, cosine and arctangent.
 
+#![tactic(auto)]
+
 pub mod arc;
 pub mod horner;
 pub mod root;

@@ -1,5 +1,8 @@
 // Replays the Rust's answers of `solve_dense`, among them systems that have none, and of `max_abs`, on a lent slice and by value, one list after another, and prints how many
 // answers each list holds and how many of them differ here. All bits are compared; all NaNs are the same. data/ has the lists, whose formats oracle/FORMATS.md gives.
+
+#![tactic(auto)]
+
 ghost use Rattle.std.specs.Prelude.{◌+◌, ◌*◌, ◌≤◌, length};
 
 use least_squares::dense::solve_dense;

@@ -1,5 +1,8 @@
 // Replays the Rust's answers of `sym_eigen`, on lent memory and by value, and of `span_basis`, one list after another, and prints how many answers each list holds and how many of them differ here.
 // All bits are compared; all NaNs are the same. data/ has the lists, whose formats oracle/FORMATS.md gives.
+
+#![tactic(auto)]
+
 mod by_value;
 
 ghost use Rattle.std.specs.Prelude.{◌*◌, ◌≤◌, ◌<◌, length};

@@ -74,6 +74,8 @@ bits_of_value f (fin t m e) s a c p v =
     div_same (m * up e * 2 ^ low f) (down e) (a * 2 ^ low f) c (down_pos e) p
     (mul_right_comm (m * up e) (2 ^ low f) c ∙ ap (λ (x : ℕ). x * 2 ^ low f) v.1 ∙ mul_right_comm a (down e) (2 ^ low f)) in
     pattern_is f t m e ∙ (λ i. pattern f (v.0 i) (q i))
+bits_of_value f nan s a c p v = elim v [ ]
+bits_of_value f (inf _) s a c p v = elim v [ ]
 
 pub value_unique : (f : Format) (x y : Float) (s : Bool) (a c : ℕ) → 0 < c → T (fits f x) → T (fits f y) → HasValue x s a c → HasValue y s a c → x ≡ y
 value_unique f x y s a c p h k v w =
@@ -115,6 +117,8 @@ has_size (fin true zero e) s a c p v =
     let z : 0 ≡ a * down e = sym (ap (λ (x : ℕ). x * c) (zero-mul (up e)) ∙ zero-mul c) ∙ v.1 in
     absurd (omega arith)
 has_size (fin true (suc m) e) s a c p v = zero-lt-suc m
+has_size nan s a c p v = elim v [ ]
+has_size (inf _) s a c p v = elim v [ ]
 
 units_plain : (f : Format) (s : Bool) (q k : ℕ) → (T s → 0 < q) → Plain (units f s q k)
 unfolding units
@@ -255,6 +259,8 @@ add_nothing f x z h p = zero_form z (λ z. add f x z ≡ x) (at x h p)
 -- ---- a product with a zero
 value_zero : (x : Float) (s : Bool) (c : ℕ) → 0 < c → HasValue x s 0 c → IsZero x
 value_zero (fin t m e) s c p v = size_zero t m e (eq_of_mul-eq-mul_right c p (m * up e) 0 (v.1 ∙ zero-mul (down e) ∙ sym (zero-mul c)))
+value_zero nan s c p v = elim v [ ]
+value_zero (inf _) s c p v = elim v [ ]
 
 round_zero : (f : Format) (s : Bool) (num den : ℕ) → num ≡ 0 → 0 < den → IsZero (round f s num den)
 round_zero f s num den z p =

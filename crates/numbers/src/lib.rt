@@ -1,5 +1,7 @@
 // The methods of Rust's f64 that the language lacks, each as specs/Double.antt defines it.
 
+#![tactic(auto)]
+
 ghost use Rattle.std.specs.Prelude.{◌≡◌};
 ghost use Rattle.std.specs.Float.{binary64};
 ghost use Rattle.std.specs.Float.Ieee.{is_nan, to_bits};

@@ -1,6 +1,9 @@
 // Replays answers to the two calls that solve a sheet by rounds, refusals included, and prints how many answers the list holds and how many of them differ here. They are
 // those of a second program of ours, which makes its rounds by the Rust's own. All bits are compared; all NaNs are the same. data/ has the list, whose format
 // oracle/FORMATS.md gives.
+
+#![tactic(auto)]
+
 mod answer;
 mod asked;
 mod solving;

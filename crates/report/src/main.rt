@@ -1,4 +1,7 @@
 // Reads a sheet from standard input and prints its report. The longest sheet has 42,520 bytes; one byte more is read, so that a longer input is refused by its length.
+
+#![tactic(auto)]
+
 mod run;
 mod text;
 

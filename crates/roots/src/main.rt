@@ -1,4 +1,7 @@
 // Compares `arcs::root` with a second root, built otherwise, on many doubles, and prints how many of each kind were compared and how many differed.
+
+#![tactic(auto)]
+
 mod cases;
 mod second;
 

@@ -2,6 +2,8 @@
 // that a second program works, one list after another, and prints how many answers each list holds and how many of them differ here. All bits are compared; all NaNs
 // are the same. data/ has the lists, whose formats oracle/FORMATS.md gives.
 
+#![tactic(auto)]
+
 use lists::answers::{counted, same};
 use lists::list;
 use lists::list::{double, word};

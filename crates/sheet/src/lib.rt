@@ -1,4 +1,7 @@
 // The calls on a sheet and the C interface.
+
+#![tactic(auto)]
+
 pub mod calls;
 pub mod freedoms;
 pub mod going;

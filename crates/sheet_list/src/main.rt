@@ -1,6 +1,9 @@
 // Replays the Rust's answers to the calls on a sheet, refusals included, and those of the Rust with a second program's gears put in, and prints how many answers each list holds
 // and how many of them differ here.
 // All bits are compared; all NaNs are the same. data/ has the lists, whose formats oracle/FORMATS.md gives.
+
+#![tactic(auto)]
+
 mod lent;
 mod solving;
 

@@ -1,5 +1,8 @@
 // Replays the Rust's answers on rotations and frames, one list after another, and prints how many answers each list holds and how many of them differ here.
 // All bits are compared; all NaNs are the same. data/ has the lists, whose formats oracle/FORMATS.md gives.
+
+#![tactic(auto)]
+
 mod frames;
 
 use frames::{matrix, same_frame, same_matrix};

@@ -1,6 +1,9 @@
 // Replays scenes that are lent to `sheet_write`, with the sheets and the refusals that a second program gives for them, and prints how many scenes the list holds and
 // how many of them differ here. The whole memory that is lent for a sheet is compared, and what stands behind it; each sheet is then read into structs and saved again.
 // data/ has the list, whose format oracle/FORMATS.md gives. Then scenes as structs whose number is known.
+
+#![tactic(auto)]
+
 mod cases;
 mod structs;
 

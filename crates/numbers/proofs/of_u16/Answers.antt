@@ -4,17 +4,10 @@ use mathlib.Core.Path.{refl}
 use native.Mathlib.Omega.{arith}
 use Rattle.numbers.specs.Double.{of_whole}
 use Rattle.numbers.proofs.WholeLaws.{whole_exact}
-use Rattle.numbers.proofs.of_u16.Statement.{statement}
-use Rattle.numbers.proofs.of_u16.Tie as tie
 use Rattle.numbers.proofs.of_u16.Reads as reads
 use Rattle.numbers.proofs.of_u16.Lts as lts
+use Rattle.numbers.proofs.of_u16.Goals as goal
 
-int-to-float-result : tie.Need-int-to-float-result
-int-to-float-result c = search rules
-
-returns : tie.Need-returns
+pub returns : goal.returns
 unfolding of_whole
-returns c = record { is = refl; exact = whole_exact c.before.args.n (omega arith) }
-
-pub of-u16-spec : {M : Type 1} → statement M
-of-u16-spec = tie.close (tie.spec int-to-float-result returns)
+returns c = record { is = refl; exact = whole_exact c.args.n (omega arith) }
