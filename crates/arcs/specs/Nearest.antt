@@ -1,6 +1,6 @@
 -- What it says that each coefficient is the double nearest to its fraction, and the bound of the arctangent the double nearest to √2 - 1. Document 01, "The train of files", item 1.
 -- proofs/NearestLaws.antt has the proof, `nearest_coefs`. Definitions and statements.
-use Rattle.std.specs.Prelude.{ℕ, zero, suc, ◌+◌, ◌*◌, ◌≡◌, Bool, true, false, not, List, [], ◌∷◌, Float}
+use Rattle.std.specs.Prelude.{ℕ, zero, suc, ◌*◌, ◌≡◌, Bool, true, false, not, List, [], ◌∷◌, Float}
 use Rattle.std.specs.Float.{binary64}
 use Rattle.std.specs.Float.Ieee.{round, of_bits}
 use Rattle.numbers.specs.Frac.{Frac, add_q, mul_q, lt_q}
