@@ -12,7 +12,7 @@ case $compiler in
 esac
 library=$root/target/staticlib/libsheet.a
 if [ ! -f "$library" ]; then
-    (cd "$root" && rt staticlib sheet >&2)
+    "$root/tools/build.sh" sheet >&2
 fi
 program=$root/target/examples/$name.$compiler
 mkdir -p "$root/target/examples"

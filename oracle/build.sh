@@ -1,6 +1,6 @@
 #!/usr/bin/env bash
 # Builds oracle/build/oracle from tenon's unchanged sources (TENON_SRC, else ../shared/docs/src beside the repository) and from
-# target/staticlib/libarcs.a and libsheet.a (rt staticlib arcs, rt staticlib sheet).
+# target/staticlib/libarcs.a and libsheet.a (tools/build.sh arcs sheet).
 set -eu
 cd "$(dirname "$0")"
 source_dir=${TENON_SRC:-$(realpath -m ../../shared/docs/src)}
@@ -11,7 +11,7 @@ fi
 libs=../target/staticlib
 for lib in arcs sheet; do
     if [ ! -f "$libs/lib$lib.a" ]; then
-        echo "oracle: no target/staticlib/lib$lib.a; rt staticlib $lib writes it" >&2
+        echo "oracle: no target/staticlib/lib$lib.a; tools/build.sh $lib writes it" >&2
         exit 3
     fi
 done

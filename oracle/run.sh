@@ -31,9 +31,9 @@ built() { # FILE COMMAND
         [ -z "$newer" ] || fail "$1 is older than ${newer#../} ($2)"
     fi
 }
-built target/staticlib/libarcs.a "rt staticlib arcs"
-built target/staticlib/libsheet.a "rt staticlib sheet"
-built target/bin/report "rm -f target/stamp/report; rt check report"
+built target/staticlib/libarcs.a "tools/build.sh arcs"
+built target/staticlib/libsheet.a "tools/build.sh sheet"
+built target/bin/report "tools/build.sh report"
 
 source_dir=${TENON_SRC:-$(realpath -m ../../shared/docs/src)}
 missing=

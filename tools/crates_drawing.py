@@ -11,21 +11,24 @@ import sys
 
 ROOT = pathlib.Path(__file__).resolve().parent.parent
 FILE = ROOT / "docs" / "crates.svg"
-OUTSIDE = {"io", "os", "libc", "std"}
-# What is used from outside: the program, and what saves a scene of structs.
+# What is used from outside, beside the static libraries: the program, and what saves a scene of structs.
 TOPS = ["report", "saving"]
 WIDTH, HEIGHT, GAP, RISE, EDGE = 104, 28, 20, 62, 16
 
 
 def crates():
-    """Each crate with those that it stands on."""
-    found = {}
+    """Each crate with those of this repository that it stands on."""
+    found, tops = {}, list(TOPS)
     for line in (ROOT / "crates.txt").read_text().splitlines():
         line = line.split("#")[0].strip()
         if line:
-            name, below = line.split(":")
-            found[name] = set(below.split()) - OUTSIDE
-    drawn = set().union(*({top} | all_below(top, found) for top in TOPS))
+            said, below = line.split(":")
+            name, *kind = said.split()
+            found[name] = set(below.split())
+            if "staticlib" in kind:
+                tops.append(name)
+    found = {name: below & set(found) for name, below in found.items()}
+    drawn = set().union(*({top} | all_below(top, found) for top in tops))
     return {name: below for name, below in found.items() if name in drawn}
 
 

@@ -135,9 +135,9 @@ class Group:
 
 
 # how the words of a set are read, in their order
-SET = {"tolerance": double, "rounds": int, "rowLimit": int, "dragWeight": double}
+SET = {"tolerance": double, "rounds": int, "row_limit": int, "drag_weight": double}
 # what calls of `solve` choose in lists that do not spell it out
-NAMED = {"tolerance": 1e-9, "rounds": 200, "rowLimit": 800, "dragWeight": 10000.0}
+NAMED = {"tolerance": 1e-9, "rounds": 200, "row_limit": 800, "drag_weight": 10000.0}
 # how a list numbers the calls of `solve`: by that set, by one that is spelled out, and by none
 BY_NAMED, BY_SET, BY_NONE = 3, 5, 6
 
@@ -1051,7 +1051,7 @@ def compare_chosen(d, where, sheet, head, chosen, answer, compared, alike):
     tolerance, _, limit, _ = chosen.values()
     poses, rows = compare_answer(d, where, sheet, answer, tolerance, compared)
     flag, worst, plain = struct.unpack_from("<Q", answer, 8)[0], largest([largest(r) for r in rows]), d.parameters["tolerance"].plain
-    first, slight = start_of_run(d, sheet, (0.0, 0.0, 0.0)), start_of_run(d, sheet, d.values("slightTurn"))
+    first, slight = start_of_run(d, sheet, (0.0, 0.0, 0.0)), start_of_run(d, sheet, d.values("slight_turn"))
     at_first, at_slight, moving = poses == first, near(poses, slight), any(sheet.moves)
     within = all(d.error(rel, first) <= tolerance for rel in sheet.rels)
     if within and not (at_first and flag):
@@ -1155,7 +1155,7 @@ def one_straight_row(d, sheet):
 
 def after_rounds(d, row, square, rounds, tolerance):
     """The row after at most so many rounds, by the page's numbers, and how many were made: a round leaves d / (square + d) of it, where d is the damping times the square, or its least figure."""
-    (damping,), (softer, least), (figure,) = (d.values(name) for name in ("run", "softer", "diagMax"))
+    (damping,), (softer, least), (figure,) = (d.values(name) for name in ("run", "softer", "diag_max"))
     for made in range(rounds):
         if abs(row) <= tolerance:
             return row, made
@@ -1280,7 +1280,7 @@ def portion_faults(d, sheet, call):
 
 def begun(d, sheet, call, now):
     """What a call that begins is, and whether it leaves what the page says of it."""
-    zeros, slight = ([bits(v) for v in [0.0, 0.0, 0.0, *w]] * sum(sheet.moves) for w in ((0.0, 0.0, 0.0), d.values("slightTurn")))
+    zeros, slight = ([bits(v) for v in [0.0, 0.0, 0.0, *w]] * sum(sheet.moves) for w in ((0.0, 0.0, 0.0), d.values("slight_turn")))
     no_round = [bits(v) for v in d.values("fresh")] == now["damping"] and (call.run, call.done, now["first"]) == (3, 0, zeros)
     start = start_of_run(d, sheet, (0.0, 0.0, 0.0))
     if all(d.error(rel, start) <= call.tolerance for rel in sheet.rels):
@@ -1487,14 +1487,14 @@ def compare_numbers(d):
     texts = {name: cited(name, file) or "" for names, file in CITED.findall(part) for name in re.findall(r"`([\w-]+)`", names)}
     for p in d.parameters.values():
         # what the ranges, and the set of a call without a choice, say of this parameter; a constant that is named there is looked up
-        ranges = [x for x in texts["inRange"].split("&&") if f"(p .{p.name})" in x]
+        ranges = [x for x in texts["in_range"].split("&&") if re.search(rf"\bp\.{p.name}\b", x)]
         plain = re.findall(rf"[{{;] {p.name} = ([^;}}]*)", texts["plain"])
         for column, pieces in (("from", ranges), ("to", ranges), ("without a choice", plain)):
             count += 1
-            named = [texts.get(name, "") for name in re.findall(r"\b[A-Z]{2,}\b", " ".join(pieces))]
+            named = [texts.get(name, "") for name in re.findall(r"\b[A-Z][A-Z_]+\b", " ".join(pieces))]
             if not any(stands(p.row[column], text) for text in pieces + named):
                 problem(f"{p.name}: {p.row[column]}, {column}, does not stand where the definitions speak of it")
-    text = cited("portionFits", "crates/refusals/specs/Refusals.antt") or ""
+    text = cited("portion_fits", "crates/refusals/specs/Refusals.antt") or ""
     for value in (d.portion.least, d.portion.most):
         count += 1
         if not stands(str(value), text):

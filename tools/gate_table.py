@@ -1,11 +1,12 @@
 #!/usr/bin/env python3
-"""What each crate holds and what the gate pays for it, as the table of docs/BENCHMARKS.md.
+"""What each crate holds, as a table, and what the gate costs.
 
-    python3 tools/gate_table.py          from what the last run of `.ci/run` left in target/
-    python3 tools/gate_table.py --run    runs `.ci/run` first
+    python3 tools/gate_table.py          the table
+    python3 tools/gate_table.py --run    runs `.ci/run` first, and tells how long it took and how much of it that run proved
 
-Lines are counted with comments: definitions are the files of specs/, proofs those of proofs/; the lists
-Lib.antt are left out. Times are seconds of wall time while two checks run side by side, as `rt ci` runs them.
+Functions are those of src/, tests left out. Lines are counted with comments: definitions are the files of specs/, proofs those of
+proofs/; the lists Lib.antt are left out. Edits are the wrong programs that must be refused. `rt ci` tells no times of single crates,
+so only the gate as a whole is timed: it proves again what has changed since an earlier run on the same machine, and what stands on that.
 """
 import pathlib
 import re
@@ -14,7 +15,8 @@ import sys
 import time
 
 ROOT = pathlib.Path(__file__).resolve().parent.parent
-TARGET = ROOT / "target"
+FUNCTION = re.compile(r'^ *(?:pub(?:\(\w+\))? )?(?:const )?(?:extern "C" )?fn \w+', re.M)
+TEST = re.compile(r"^ *#\[test\]$", re.M)
 
 
 def lines(paths):
@@ -25,58 +27,50 @@ def logic(folder):
     return [p for p in folder.rglob("*.antt") if p.name != "Lib.antt"]
 
 
-def seconds(text, pattern):
-    found = re.search(pattern, text)
-    return int(found.group(1)) if found else None
-
-
 def crate_row(name):
     folder = ROOT / "crates" / name
-    said = (TARGET / "log" / f"{name}.out").read_text(encoding="utf-8")
-    edits = sorted(folder.glob("must-fail/*.edit"))
-    times = []
-    for edit in edits:
-        out = TARGET / "must-fail" / name / f"{edit.stem}.out"
-        times.append(seconds(out.read_text(encoding="utf-8"), r"; (\d+) s\)") if out.exists() else None)
+    source = sorted(folder.glob("src/**/*.rt"))
+    text = "\n".join(p.read_text(encoding="utf-8") for p in source)
     return {
-        "name": name,
-        "functions": seconds(said, r"functions=(\d+)"),
-        "source": lines(folder.rglob("src/**/*.rt")),
+        "functions": len(FUNCTION.findall(text)) - len(TEST.findall(text)),
+        "source": lines(source),
         "definitions": lines(logic(folder / "specs")),
         "proofs": lines(logic(folder / "proofs")),
-        "check": seconds(said, rf"rt: {name} proved \((\d+) s\)"),
-        "edits": len(edits),
-        "edits_time": sum(t for t in times if t is not None),
-        "edits_missing": sum(t is None for t in times),
+        "edits": len(list(folder.glob("must-fail/*.edit"))),
     }
 
 
 def crates():
     for line in (ROOT / "crates.txt").read_text(encoding="utf-8").splitlines():
-        name = line.split("#")[0].split(":")[0].strip()
-        if name:
-            yield name
+        words = line.split("#")[0].split(":")[0].split()
+        if words:
+            yield words[0]
+
+
+def run_gate():
+    began, told = time.time(), ""
+    gate = subprocess.Popen([ROOT / ".ci" / "run"], stdin=subprocess.DEVNULL, stdout=subprocess.PIPE, text=True, errors="replace")
+    for line in gate.stdout:
+        print(line, end="", flush=True)
+        told = line if line.startswith("rt: ok") else told
+    ended = gate.wait()
+    print(f"\nthe gate ended with {ended} after {(time.time() - began) / 60:.1f} minutes\n{told}")
+    if ended != 0:
+        sys.exit(ended)
 
 
 def main():
     if sys.argv[1:] == ["--run"]:
-        began = time.time()
-        ended = subprocess.run([ROOT / ".ci" / "run"], stdin=subprocess.DEVNULL).returncode
-        print(f"\nthe gate ended with {ended} after {(time.time() - began) / 60:.1f} minutes\n")
-        if ended != 0:
-            sys.exit(ended)
+        run_gate()
     elif sys.argv[1:]:
         sys.exit(__doc__)
-    rows = [crate_row(name) for name in crates()]
-    missing = [r["name"] for r in rows if r["check"] is None or r["functions"] is None or r["edits_missing"]]
-    if missing:
-        sys.exit("target/ has no whole run of the gate: nothing measured for " + ", ".join(missing))
-    keys = ["functions", "source", "definitions", "proofs", "check", "edits", "edits_time"]
-    print("| crate | functions | source | definitions | proofs | check, s | edits | their time, s |")
-    print("|---|---|---|---|---|---|---|---|")
-    for r in rows:
-        print(f"| `{r['name']}` | " + " | ".join(str(r[k]) for k in keys) + " |")
-    print("| all | " + " | ".join(str(sum(r[k] for r in rows)) for k in keys) + " |")
+    rows = {name: crate_row(name) for name in crates()}
+    keys = ["functions", "source", "definitions", "proofs", "edits"]
+    print("| crate | " + " | ".join(keys) + " |")
+    print("|---" * (1 + len(keys)) + "|")
+    for name, row in rows.items():
+        print(f"| `{name}` | " + " | ".join(str(row[k]) for k in keys) + " |")
+    print("| all | " + " | ".join(str(sum(row[k] for row in rows.values())) for k in keys) + " |")
 
 
 main()

@@ -5,9 +5,11 @@ set -eu
 root=$(cd "$(dirname "$0")/.." && pwd)
 program=$root/target/bin/report
 if [ ! -x "$program" ]; then
-    (cd "$root" && rt check report >&2)
+    "$root/tools/build.sh" report >&2
 fi
-lib=$(dirname "$(dirname "$(rt doc)")")/toolchain/lib
+# rt stands in the toolchain's folder bin/, or a link to it does on the PATH; asking it (rt doc) takes longer than the program.
+rt=$(command -v rt || true)
+lib=$(dirname "$(dirname "$(readlink -f "${rt:-/bin/rt}")")")/toolchain/lib
 run=("$program")
 if [ -x "$lib/ld-linux-x86-64.so.2" ]; then
     run=("$lib/ld-linux-x86-64.so.2" --library-path "$lib" "$program")

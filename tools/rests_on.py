@@ -32,7 +32,7 @@ CALLS = [
     ("arctangent", "arcs/src/arc.rt"),
     ("report", "report/src/run.rt"),
 ]
-MODULE = re.compile(r"Rattle·(\w+?)(?:·specs|·proofs)?\.(specs|proofs)\.(.*)")
+MODULE = re.compile(r"Rattle\.(\w+)\.(specs|proofs)\.(.*)")
 
 
 def source(module):
@@ -41,7 +41,7 @@ def source(module):
     if not m:
         return None
     crate, kind, rest = m.groups()
-    if rest.startswith("declared."):
+    if rest.startswith("declared.") or not (ROOT / "crates" / crate).is_dir():
         return None
     file = f"crates/{crate}/{kind}/{rest.replace('.', '/')}.antt"
     if not (ROOT / file).is_file():
@@ -59,11 +59,11 @@ def first_files(call, path):
     found = re.search(r"pub (?:extern \"C\" )?fn %s\([\s\S]*?\n\{" % call, text)
     if not found:
         sys.exit(f"rests_on: no function {call} in {path}")
-    contract = " ".join(re.findall(r"⌜(.*)⌝", found.group(0)))
+    contract = " ".join(re.findall(r"^    (?:requires|ensures)\*?(?: \w+)? \{(.*)\}$", found.group(0), re.M))
     files = set()
     for module, names, alias in re.findall(r"^ghost use ([^\s{;]+?)(?:\.\{([^}]*)\})?(?: as (\w+))?;$", text, re.M):
-        used = [alias] if alias else [n.strip() for n in names.split(",")]
-        if any(re.search(r"(?<![\w·.])%s(?![\w-])" % re.escape(u), contract) for u in used):
+        used = [alias] if alias else [n.split(" as ")[-1].strip() for n in names.split(",")]
+        if any(re.search(r"(?<![\w.])%s(?![\w'])" % re.escape(u), contract) for u in used):
             file = source(module)
             if file:
                 files.add(file)

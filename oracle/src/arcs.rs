@@ -1,4 +1,4 @@
-//! Root, sine, cosine and arctangent of the static library that `rt staticlib arcs` writes, which the oracle calls.
+//! Root, sine, cosine and arctangent of the static library that `tools/build.sh arcs` writes, which the oracle calls.
 //! Module `rule` is a reading of document 01's rule and of request 3/14, written from documents 01 and 02; it shares nothing with the port, and the library is compared with it.
 
 pub mod rule {

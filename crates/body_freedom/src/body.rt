@@ -17,14 +17,14 @@ use vectors::vec::Vec3;
 use vectors::{root, tol};
 
 // The first `count` pairs: those whose vectors are free motions.
-#[derive(Drop)]
+#[derive(Clone, Copy)]
 struct Free {
     count: usize,
     pairs: [Eigen6; 6],
 }
 
 // Slides, and turns: axes with a point of each. Unused vectors are zero.
-#[derive(Drop)]
+#[derive(Clone, Copy)]
 pub struct Freedom {
     pub slides: Basis,
     pub axes: Basis,

@@ -23,7 +23,7 @@ use slopes::slopes::step_of;
 use vectors::vec::Vec3;
 
 // Where the parts stand in the scratch that is lent from the slopes on; the slopes stand at 0. `BodyApart` says what each is for.
-#[derive(Drop)]
+#[derive(Clone, Copy)]
 pub struct BodyParts {
     pub poses: usize,
 }

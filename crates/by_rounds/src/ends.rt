@@ -15,7 +15,7 @@ use scene::parameters::Parameters;
 use scene::scene::{Scene, rows_at};
 
 // What of a running state goes by value: the damping, the rounds that the present run has made, and which run it is: 1 the first, 2 the retry, 3 finished.
-#[derive(Drop)]
+#[derive(Clone, Copy)]
 pub struct Going {
     pub mu: f64,
     pub done: u32,

@@ -18,7 +18,7 @@ use scene::scene::Scene;
 
 // What a call tells beside the lent slices: the rounds that the present run has made, which run it is, the rounds that
 // the call has made, and whether every error is within the tolerance.
-#[derive(Drop)]
+#[derive(Clone, Copy)]
 pub struct Reached {
     pub done: u32,
     pub run: u8,

@@ -58,7 +58,7 @@ fn one_more(
 }
 
 // What a portion of rounds has come to, and how many rounds it has made.
-#[derive(Drop)]
+#[derive(Clone, Copy)]
 pub struct Portion {
     pub going: Going,
     pub made: usize,

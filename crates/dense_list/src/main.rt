@@ -12,7 +12,7 @@ use lists::list;
 use lists::list::word;
 use relations::rows::Rows;
 
-#[derive(Drop)]
+#[derive(Clone, Copy)]
 enum List {
     Dense,
     Largest,

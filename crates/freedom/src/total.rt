@@ -25,7 +25,7 @@ use vectors::tol::DOF_REL;
 
 // Where the parts of the scratch stand. In order, with R rows and n unknowns of m bodies: n unknowns from 0 on, R·n slopes, n² of their square, its n values, 12m for `poses`.
 // `TotalApart` says what each is for.
-#[derive(Drop)]
+#[derive(Clone, Copy)]
 struct TotalParts {
     slopes: usize,
     poses: usize,

@@ -7,7 +7,7 @@ use Rattle.numbers.specs.Double.{zero64}
 use Rattle.vectors.specs.Vec.{sub_v, dot}
 use Rattle.relations.specs.Geometry.{Geo, plane, line, point, circle, Pose}
 use Rattle.relations.specs.Model.{End, Law, mate, flush, angle, insert, tangent, symmetry, joint, gear, Rel}
-use Rattle.relations.specs.Rows.{Pair, planes, lines, points, plane_point, line_point, plane_line, other, pair, mate_prim, is_plane, JointAt, joint_at, turn}
+use Rattle.relations.specs.Rows.{Pair, planes, lines, points, plane_point, line_point, plane_line, other, pair, mate_prim, is_plane, joint_at, turn}
 use Rattle.judging.specs.declared.judge.Reading.{Reading as ReadingStruct}
 
 -- ---- which pairs suit a law

@@ -6,7 +6,7 @@ ghost use Rattle.relations.specs.Rows.{pair_of};
 ghost use Rattle.judging.specs.Count as spec;
 
 use crate::judge::{has_direction, is_circle};
-use relations::geometry::Prim;
+use relations::geometry::Primitive;
 use relations::model::{JointKind, Law, Rel};
 use relations::rows::{Pair, is_plane, mate_prim};
 
@@ -65,7 +65,7 @@ fn joint_count(kind: JointKind) -> usize
     }
 }
 
-fn law_count(law: Law, a: Prim, b: Prim) -> usize
+fn law_count(law: Law, a: Primitive, b: Primitive) -> usize
     ensures { result ≡ spec.row_count (law_of law) (prim a) (prim b) }
 {
     match law {

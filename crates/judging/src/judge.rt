@@ -5,22 +5,22 @@ ghost use Rattle.relations.specs.Model.{end_of, law_of, rel_of, pose};
 ghost use Rattle.relations.specs.Rows.{pair_of};
 ghost use Rattle.judging.specs.Judge as spec;
 
-use relations::geometry::Prim;
+use relations::geometry::Primitive;
 use relations::model::{End, Law, Pose, Rel};
 use relations::rows;
 use relations::rows::{Pair, is_plane, mate_prim};
 
-pub fn is_circle(p: Prim) -> bool
+pub fn is_circle(p: Primitive) -> bool
     ensures { result ≡ spec.is_circle (prim p) }
 {
     match p {
-        Prim::Plane {
+        Primitive::Plane {
             point: _,
             normal: _,
         } => false,
-        Prim::Line { point: _, dir: _ } => false,
-        Prim::Point(_) => false,
-        Prim::Circle {
+        Primitive::Line { point: _, dir: _ } => false,
+        Primitive::Point(_) => false,
+        Primitive::Circle {
             center: _,
             normal: _,
             radius: _,
@@ -28,17 +28,17 @@ pub fn is_circle(p: Prim) -> bool
     }
 }
 
-pub fn has_direction(p: Prim) -> bool
+pub fn has_direction(p: Primitive) -> bool
     ensures { result ≡ spec.has_direction (prim p) }
 {
     match p {
-        Prim::Plane {
+        Primitive::Plane {
             point: _,
             normal: _,
         } => true,
-        Prim::Line { point: _, dir: _ } => true,
-        Prim::Point(_) => false,
-        Prim::Circle {
+        Primitive::Line { point: _, dir: _ } => true,
+        Primitive::Point(_) => false,
+        Primitive::Circle {
             center: _,
             normal: _,
             radius: _,
@@ -46,17 +46,17 @@ pub fn has_direction(p: Prim) -> bool
     }
 }
 
-fn line_or_point(p: Prim) -> bool
+fn line_or_point(p: Primitive) -> bool
     ensures { result ≡ spec.line_or_point (prim p) }
 {
     match p {
-        Prim::Plane {
+        Primitive::Plane {
             point: _,
             normal: _,
         } => false,
-        Prim::Line { point: _, dir: _ } => true,
-        Prim::Point(_) => true,
-        Prim::Circle {
+        Primitive::Line { point: _, dir: _ } => true,
+        Primitive::Point(_) => true,
+        Primitive::Circle {
             center: _,
             normal: _,
             radius: _,
@@ -80,7 +80,7 @@ fn two_of_a_kind(p: Pair) -> bool
 }
 
 // A tangent is not between two planes, and not with a circle.
-fn suits_tangent(a: Prim, b: Prim) -> bool
+fn suits_tangent(a: Primitive, b: Primitive) -> bool
     ensures { result ≡ spec.suits_tangent (prim a) (prim b) }
 {
     if is_circle(a) {
@@ -92,7 +92,7 @@ fn suits_tangent(a: Prim, b: Prim) -> bool
     if is_plane(a) { !is_plane(b) } else { true }
 }
 
-fn suits(law: Law, a: Prim, b: Prim) -> bool
+fn suits(law: Law, a: Primitive, b: Primitive) -> bool
     ensures { result ≡ spec.suits (law_of law) (prim a) (prim b) }
 {
     match law {
@@ -140,7 +140,7 @@ fn suits(law: Law, a: Prim, b: Prim) -> bool
 }
 
 // Whether two kinds of geometry can take this law: 0, else 11.
-pub fn check(law: Law, a: Prim, b: Prim) -> u32
+pub fn check(law: Law, a: Primitive, b: Primitive) -> u32
     ensures { result ≡ spec.check (law_of law) (prim a) (prim b) }
 {
     if suits(law, a, b) { 0 } else { 11 }
@@ -234,7 +234,7 @@ pub fn judge(rel: Rel) -> u32
 }
 
 // Where a joint stands, as its own offset and angle are measured.
-#[derive(Drop)]
+#[derive(Clone, Copy)]
 pub struct Reading {
     pub offset: f64,
     pub angle: f64,

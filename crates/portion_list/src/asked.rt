@@ -10,7 +10,7 @@ use lists::list::{double, read, word};
 pub const BEFORE: f64 = 2.5;
 
 // The set of parameters.
-#[derive(Drop)]
+#[derive(Clone, Copy)]
 pub struct Chosen {
     pub tolerance: f64,
     pub rounds: u64,
@@ -19,7 +19,7 @@ pub struct Chosen {
 }
 
 // How many doubles are lent.
-#[derive(Drop)]
+#[derive(Clone, Copy)]
 pub struct Lengths {
     pub state: u64,
     pub scratch: u64,
@@ -30,7 +30,7 @@ pub struct Lengths {
 
 // Which call, 0 for beginning and 1 for going on; the drag, what it chooses, the portion, the counts of unknowns and of rows, what it is lent; how many doubles the
 // list then gives for the state, 0 if the running state is the one that the call before left.
-#[derive(Drop)]
+#[derive(Clone, Copy)]
 pub struct Call {
     pub which: u64,
     pub drag: u64,
@@ -43,7 +43,7 @@ pub struct Call {
 }
 
 // The rounds done, the run, and the state's memory, of which the list gave so many doubles.
-#[derive(Drop)]
+#[derive(Clone, Copy)]
 pub struct Running {
     pub done: u64,
     pub run: u64,

@@ -16,14 +16,14 @@ use lists::list::word;
 use solving::{Arguments, Values, arguments_of, solved, values_before};
 use std::num::wrapping_add_u64;
 
-#[derive(Drop)]
+#[derive(Clone, Copy)]
 struct Tally {
     answers: u64,
     wrong: u64,
 }
 
 // Whether a call gave the list's answer, and the running state that it left.
-#[derive(Drop)]
+#[derive(Clone, Copy)]
 struct Outcome {
     right: bool,
     running: Running,

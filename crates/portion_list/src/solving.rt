@@ -7,7 +7,7 @@ use crate::asked::{Call, Lengths, at_most};
 use sheet::going::{sheet_solve_begin, sheet_solve_on};
 
 // The drag, the set and the portion as a call takes them.
-#[derive(Drop)]
+#[derive(Clone, Copy)]
 pub struct Arguments {
     pub drag: u16,
     pub tolerance: f64,
@@ -18,7 +18,7 @@ pub struct Arguments {
 }
 
 // The number that a call gives, and what the whole numbers are that are handed over or lent to it.
-#[derive(Drop)]
+#[derive(Clone, Copy)]
 pub struct Values {
     pub number: u32,
     pub unknowns: u32,

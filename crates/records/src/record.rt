@@ -9,7 +9,7 @@ ghost use Rattle.relations.specs.Geometry.{prim};
 ghost use Rattle.relations.specs.Model.{body_number, end_of, law_of, rel_of, body_of};
 ghost use Rattle.records.specs.Record as spec;
 
-use relations::geometry::Prim;
+use relations::geometry::Primitive;
 use relations::model::{Body, BodyRef, End, JointKind, Law, Rel};
 use vectors::space::Frame;
 use vectors::vec::Vec3;
@@ -102,17 +102,17 @@ pub fn body_at(s: &[u8], o: usize) -> Body
     }
 }
 
-fn prim_of(kind: u8, p: Vec3, d: Vec3, r: f64) -> Prim
+fn prim_of(kind: u8, p: Vec3, d: Vec3, r: f64) -> Primitive
     ensures { prim result ≡ spec.prim_at kind (vec p) (vec d) r }
 {
     match kind {
-        0 => Prim::Plane {
+        0 => Primitive::Plane {
             point: p,
             normal: d,
         },
-        1 => Prim::Line { point: p, dir: d },
-        2 => Prim::Point(p),
-        _ => Prim::Circle {
+        1 => Primitive::Line { point: p, dir: d },
+        2 => Primitive::Point(p),
+        _ => Primitive::Circle {
             center: p,
             normal: d,
             radius: r,

@@ -6,8 +6,8 @@ use Rattle.numbers.specs.Ops.{Ops, doubles}
 use Rattle.vectors.specs.Vec.{Vec, vec, z_v, neg_v, add_v}
 use Rattle.vectors.specs.Space.{Frame, world, from_normal}
 use Rattle.vectors.specs.Math.{Mat, apply}
-use Rattle.relations.specs.declared.geometry.Prim.{Prim as Primitive}
-use Rattle.relations.specs.declared.geometry.Prim.TheVariants.{Plane, Line, Point, Circle}
+use Rattle.relations.specs.declared.geometry.Primitive.{Primitive}
+use Rattle.relations.specs.declared.geometry.Primitive.TheVariants.{Plane, Line, Point, Circle}
 use Rattle.relations.specs.declared.geometry.Direction.{Direction}
 use Rattle.relations.specs.declared.geometry.Direction.TheVariants.{Along, Nothing}
 
@@ -18,7 +18,7 @@ pub data Geo (C : Type 0) : Type 0 where
   point : Vec C → Geo C
   circle : Vec C → Vec C → C → Geo C
 
--- the numbers of a `Prim`
+-- the numbers of a `Primitive`
 abbrev pub prim : Primitive → Geo Float
 prim (Plane p n) = plane (vec p) (vec n)
 prim (Line p d) = line (vec p) (vec d)

@@ -11,10 +11,9 @@ use Rattle.numbers.specs.Double.{zero64, one64, of_whole, abs, rem_euclid}
 use Rattle.numbers.specs.MaxAbs.{max_abs_step}
 use Rattle.arcs.specs.Arcs.{arctangent}
 use Rattle.vectors.specs.Vec.{Vec, vec, zero_v, add_v, sub_v, scale_v, dot, cross, len}
-use Rattle.vectors.specs.Space.{Frame}
-use Rattle.vectors.specs.Math.{Mat, apply, identity, PI}
-use Rattle.relations.specs.Geometry.{Geo, plane, line, point, circle, Pose, vec_of, pose_of, place, placed, direction_of, joint_frame}
-use Rattle.relations.specs.Model.{End, Law, mate, flush, angle, insert, tangent, symmetry, joint, gear, Rel}
+use Rattle.vectors.specs.Math.{apply, identity, PI}
+use Rattle.relations.specs.Geometry.{Geo, plane, line, point, circle, Pose, pose_of, place, placed, direction_of, joint_frame}
+use Rattle.relations.specs.Model.{End, Law, mate, flush, angle, insert, tangent, symmetry, joint, gear}
 use Rattle.relations.specs.declared.rows.Rows.{Rows}
 use Rattle.relations.specs.declared.rows.Pair.{Pair as PairEnum}
 use Rattle.relations.specs.declared.rows.Pair.TheVariants.{Planes, Lines, Points, PlanePoint, LinePoint, PlaneLine, Other}

@@ -1,4 +1,4 @@
-// `Prim` of geometry.rs. `specs/Geometry.antt` has the definitions.
+// `Prim` of geometry.rs, here `Primitive`. `specs/Geometry.antt` has the definitions.
 ghost use Rattle.std.specs.Prelude.{◌≡◌};
 ghost use Rattle.numbers.specs.Ops.{doubles};
 ghost use Rattle.vectors.specs.Vec.{vec};
@@ -11,8 +11,8 @@ use vectors::space::{Frame, NewFrame};
 use vectors::vec::Vec3;
 
 // Geometry that a relation works with.
-#[derive(Drop)]
-pub enum Prim {
+#[derive(Clone, Copy)]
+pub enum Primitive {
     Plane {
         point: Vec3,
         normal: Vec3,
@@ -30,7 +30,7 @@ pub enum Prim {
 }
 
 // A direction, or none.
-#[derive(Drop)]
+#[derive(Clone, Copy)]
 pub enum Direction {
     Along(Vec3),
     Nothing,
@@ -43,26 +43,26 @@ pub fn place(r: M3, t: Vec3, p: Vec3) -> Vec3
     r.apply(p).add(t)
 }
 
-impl Prim {
+impl Primitive {
     // The same geometry moved by a placement: the rotation r, then the translation t.
-    pub fn placed(self, r: M3, t: Vec3) -> Prim
+    pub fn placed(self, r: M3, t: Vec3) -> Primitive
         ensures { spec.prim result ≡ spec.placed doubles (record { r = mat r; t = vec t }) (spec.prim self) }
     {
         match self {
-            Prim::Plane { point, normal } => Prim::Plane {
+            Primitive::Plane { point, normal } => Primitive::Plane {
                 point: place(r, t, point),
                 normal: r.apply(normal),
             },
-            Prim::Line { point, dir } => Prim::Line {
+            Primitive::Line { point, dir } => Primitive::Line {
                 point: place(r, t, point),
                 dir: r.apply(dir),
             },
-            Prim::Point(p) => Prim::Point(place(r, t, p)),
-            Prim::Circle {
+            Primitive::Point(p) => Primitive::Point(place(r, t, p)),
+            Primitive::Circle {
                 center,
                 normal,
                 radius,
-            } => Prim::Circle {
+            } => Primitive::Circle {
                 center: place(r, t, center),
                 normal: r.apply(normal),
                 radius,
@@ -75,10 +75,10 @@ impl Prim {
         ensures { vec result ≡ spec.point_of (spec.prim self) }
     {
         match self {
-            Prim::Plane { point, normal: _ } => point,
-            Prim::Line { point, dir: _ } => point,
-            Prim::Point(p) => p,
-            Prim::Circle {
+            Primitive::Plane { point, normal: _ } => point,
+            Primitive::Line { point, dir: _ } => point,
+            Primitive::Point(p) => p,
+            Primitive::Circle {
                 center,
                 normal: _,
                 radius: _,
@@ -91,10 +91,10 @@ impl Prim {
         ensures { spec.direction result ≡ spec.direction_of (spec.prim self) }
     {
         match self {
-            Prim::Plane { point: _, normal } => Direction::Along(normal),
-            Prim::Line { point: _, dir } => Direction::Along(dir),
-            Prim::Point(_) => Direction::Nothing,
-            Prim::Circle {
+            Primitive::Plane { point: _, normal } => Direction::Along(normal),
+            Primitive::Line { point: _, dir } => Direction::Along(dir),
+            Primitive::Point(_) => Direction::Nothing,
+            Primitive::Circle {
                 center: _,
                 normal,
                 radius: _,

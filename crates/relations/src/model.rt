@@ -6,13 +6,13 @@ ghost use Rattle.vectors.specs.Space.{frame};
 ghost use Rattle.relations.specs.Geometry as geometry;
 ghost use Rattle.relations.specs.Model as spec;
 
-use crate::geometry::Prim;
+use crate::geometry::Primitive;
 use vectors::math::M3;
 use vectors::space::Frame;
 use vectors::vec::Vec3;
 
 // The joint types.
-#[derive(Drop)]
+#[derive(Clone, Copy)]
 pub enum JointKind {
     Rigid,
     Revolute,
@@ -23,7 +23,7 @@ pub enum JointKind {
 }
 
 // A part as the solver sees it: where it stands, whether it is held, what it turns about, its size.
-#[derive(Drop)]
+#[derive(Clone, Copy)]
 pub struct Body {
     pub frame: Frame,
     pub fixed: bool,
@@ -32,23 +32,23 @@ pub struct Body {
 }
 
 // What an end belongs to.
-#[derive(Drop)]
+#[derive(Clone, Copy)]
 pub enum BodyRef {
     Ground,
     Of(usize),
 }
 
 // One side of a relation, its geometry in its body's coordinates.
-#[derive(Drop)]
+#[derive(Clone, Copy)]
 pub struct End {
     pub body: BodyRef,
-    pub prim: Prim,
+    pub prim: Primitive,
     pub radius: f64,
     pub mirrored: bool,
 }
 
 // What a relation requires.
-#[derive(Drop)]
+#[derive(Clone, Copy)]
 pub enum Law {
     Mate {
         offset: f64,
@@ -86,7 +86,7 @@ pub enum Law {
     },
 }
 
-#[derive(Drop)]
+#[derive(Clone, Copy)]
 pub struct Rel {
     pub law: Law,
     pub a: End,
@@ -94,7 +94,7 @@ pub struct Rel {
 }
 
 // A rigid placement during solving.
-#[derive(Drop)]
+#[derive(Clone, Copy)]
 pub struct Pose {
     pub r: M3,
     pub t: Vec3,
@@ -129,7 +129,7 @@ impl Pose {
 
 impl End {
     // The end's geometry at its body's pose.
-    pub fn placed(self, q: Pose) -> Prim
+    pub fn placed(self, q: Pose) -> Primitive
         ensures { geometry.prim result ≡ geometry.placed doubles (spec.pose q) (spec.end_of self).prim }
     {
         let p = self.prim;

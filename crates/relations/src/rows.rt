@@ -7,7 +7,7 @@ ghost use Rattle.relations.specs.Geometry.{prim, direction};
 ghost use Rattle.relations.specs.Model.{end_of, law_of, pose};
 ghost use Rattle.relations.specs.Rows as spec;
 
-use crate::geometry::{Direction, Prim};
+use crate::geometry::{Direction, Primitive};
 use crate::model::{End, JointKind, Law, Pose, Rel};
 use least_squares::lm::max_abs_step;
 use vectors::vec::Vec3;
@@ -17,7 +17,7 @@ const PI: f64 = 3.141592653589793;
 const MINUS_ONE: f64 = -1.0;
 
 // The first n of seven numbers; the others are 0.
-#[derive(Drop)]
+#[derive(Clone, Copy)]
 pub struct Rows {
     pub n: usize,
     pub r0: f64,
@@ -217,35 +217,35 @@ pub fn turn(xa: Vec3, xb: Vec3, axis: Vec3) -> f64
 }
 
 // A circle's axis is what a mate works with.
-pub fn mate_prim(p: Prim) -> Prim
+pub fn mate_prim(p: Primitive) -> Primitive
     ensures { prim result ≡ spec.mate_prim (prim p) }
 {
     match p {
-        Prim::Plane { point, normal } => Prim::Plane { point, normal },
-        Prim::Line { point, dir } => Prim::Line { point, dir },
-        Prim::Point(q) => Prim::Point(q),
-        Prim::Circle {
+        Primitive::Plane { point, normal } => Primitive::Plane { point, normal },
+        Primitive::Line { point, dir } => Primitive::Line { point, dir },
+        Primitive::Point(q) => Primitive::Point(q),
+        Primitive::Circle {
             center,
             normal,
             radius: _,
-        } => Prim::Line {
+        } => Primitive::Line {
             point: center,
             dir: normal,
         },
     }
 }
 
-pub fn is_plane(p: Prim) -> bool
+pub fn is_plane(p: Primitive) -> bool
     ensures { result ≡ spec.is_plane (prim p) }
 {
     match p {
-        Prim::Plane {
+        Primitive::Plane {
             point: _,
             normal: _,
         } => true,
-        Prim::Line { point: _, dir: _ } => false,
-        Prim::Point(_) => false,
-        Prim::Circle {
+        Primitive::Line { point: _, dir: _ } => false,
+        Primitive::Point(_) => false,
+        Primitive::Circle {
             center: _,
             normal: _,
             radius: _,
@@ -255,7 +255,7 @@ pub fn is_plane(p: Prim) -> bool
 
 // Two primitives as the laws tell them apart, each by its point and its normal, direction or axis: two of a kind, a's before b's; or two kinds, whichever of
 // the two is a's.
-#[derive(Drop)]
+#[derive(Clone, Copy)]
 pub enum Pair {
     Planes(Vec3, Vec3, Vec3, Vec3),
     Lines(Vec3, Vec3, Vec3, Vec3),
@@ -267,53 +267,53 @@ pub enum Pair {
 }
 
 impl Pair {
-    pub fn of(a: Prim, b: Prim) -> Pair
+    pub fn of(a: Primitive, b: Primitive) -> Pair
         ensures { spec.pair_of result ≡ spec.pair (prim a) (prim b) }
     {
         match a {
-            Prim::Plane {
+            Primitive::Plane {
                 point: pa,
                 normal: na,
             } => match b {
-                Prim::Plane {
+                Primitive::Plane {
                     point: pb,
                     normal: nb,
                 } => Pair::Planes(pa, na, pb, nb),
-                Prim::Line { point: q, dir: d } => Pair::PlaneLine(pa, na, q, d),
-                Prim::Point(q) => Pair::PlanePoint(pa, na, q),
-                Prim::Circle {
+                Primitive::Line { point: q, dir: d } => Pair::PlaneLine(pa, na, q, d),
+                Primitive::Point(q) => Pair::PlanePoint(pa, na, q),
+                Primitive::Circle {
                     center: _,
                     normal: _,
                     radius: _,
                 } => Pair::Other,
             },
-            Prim::Line { point: pa, dir: da } => match b {
-                Prim::Plane {
+            Primitive::Line { point: pa, dir: da } => match b {
+                Primitive::Plane {
                     point: p,
                     normal: n,
                 } => Pair::PlaneLine(p, n, pa, da),
-                Prim::Line { point: pb, dir: db } => Pair::Lines(pa, da, pb, db),
-                Prim::Point(q) => Pair::LinePoint(pa, da, q),
-                Prim::Circle {
+                Primitive::Line { point: pb, dir: db } => Pair::Lines(pa, da, pb, db),
+                Primitive::Point(q) => Pair::LinePoint(pa, da, q),
+                Primitive::Circle {
                     center: _,
                     normal: _,
                     radius: _,
                 } => Pair::Other,
             },
-            Prim::Point(q) => match b {
-                Prim::Plane {
+            Primitive::Point(q) => match b {
+                Primitive::Plane {
                     point: p,
                     normal: n,
                 } => Pair::PlanePoint(p, n, q),
-                Prim::Line { point: p, dir: d } => Pair::LinePoint(p, d, q),
-                Prim::Point(pb) => Pair::Points(q, pb),
-                Prim::Circle {
+                Primitive::Line { point: p, dir: d } => Pair::LinePoint(p, d, q),
+                Primitive::Point(pb) => Pair::Points(q, pb),
+                Primitive::Circle {
                     center: _,
                     normal: _,
                     radius: _,
                 } => Pair::Other,
             },
-            Prim::Circle {
+            Primitive::Circle {
                 center: _,
                 normal: _,
                 radius: _,
@@ -336,29 +336,29 @@ fn mate(offset: f64, p: Pair) -> Rows
     }
 }
 
-fn flush(offset: f64, a: Prim, b: Prim) -> Rows
+fn flush(offset: f64, a: Primitive, b: Primitive) -> Rows
     ensures { result ≡ spec.pack (spec.flush_rows doubles offset (prim a) (prim b)) }
 {
     match a {
-        Prim::Plane {
+        Primitive::Plane {
             point: pa,
             normal: na,
         } => match b {
-            Prim::Plane {
+            Primitive::Plane {
                 point: pb,
                 normal: nb,
             } => Rows::four(na.sub(nb), gap(pb, pa, na, offset)),
-            Prim::Line { point: _, dir: _ } => Rows::none(),
-            Prim::Point(_) => Rows::none(),
-            Prim::Circle {
+            Primitive::Line { point: _, dir: _ } => Rows::none(),
+            Primitive::Point(_) => Rows::none(),
+            Primitive::Circle {
                 center: _,
                 normal: _,
                 radius: _,
             } => Rows::none(),
         },
-        Prim::Line { point: _, dir: _ } => Rows::none(),
-        Prim::Point(_) => Rows::none(),
-        Prim::Circle {
+        Primitive::Line { point: _, dir: _ } => Rows::none(),
+        Primitive::Point(_) => Rows::none(),
+        Primitive::Circle {
             center: _,
             normal: _,
             radius: _,
@@ -379,16 +379,16 @@ fn angle(want: f64, axis: Vec3, a: Direction, b: Direction) -> Rows
     }
 }
 
-fn insert(offset: f64, aligned: bool, a: Prim, b: Prim) -> Rows
+fn insert(offset: f64, aligned: bool, a: Primitive, b: Primitive) -> Rows
     ensures { result ≡ spec.pack (spec.insert_rows doubles offset aligned (prim a) (prim b)) }
 {
     match a {
-        Prim::Circle {
+        Primitive::Circle {
             center: ca,
             normal: na,
             radius: _,
         } => match b {
-            Prim::Circle {
+            Primitive::Circle {
                 center: cb,
                 normal: nb,
                 radius: _,
@@ -400,19 +400,19 @@ fn insert(offset: f64, aligned: bool, a: Prim, b: Prim) -> Rows
                     Rows::six(na.add(nb), apart)
                 }
             }
-            Prim::Plane {
+            Primitive::Plane {
                 point: _,
                 normal: _,
             } => Rows::none(),
-            Prim::Line { point: _, dir: _ } => Rows::none(),
-            Prim::Point(_) => Rows::none(),
+            Primitive::Line { point: _, dir: _ } => Rows::none(),
+            Primitive::Point(_) => Rows::none(),
         },
-        Prim::Plane {
+        Primitive::Plane {
             point: _,
             normal: _,
         } => Rows::none(),
-        Prim::Line { point: _, dir: _ } => Rows::none(),
-        Prim::Point(_) => Rows::none(),
+        Primitive::Line { point: _, dir: _ } => Rows::none(),
+        Primitive::Point(_) => Rows::none(),
     }
 }
 
@@ -446,7 +446,7 @@ fn round_tangent(want: f64, p: Pair) -> Rows
     }
 }
 
-fn tangent(ra: f64, rb: f64, offset: f64, inside: bool, a: Prim, b: Prim) -> Rows
+fn tangent(ra: f64, rb: f64, offset: f64, inside: bool, a: Primitive, b: Primitive) -> Rows
     ensures { result ≡ spec.pack (spec.tangent_rows ra rb offset inside (prim a) (prim b)) }
 {
     let p = Pair::of(a, b);
@@ -494,17 +494,17 @@ fn mirror(s0: Vec3, ns: Vec3, p: Pair) -> Rows
     }
 }
 
-fn symmetry(s: Prim, a: Prim, b: Prim) -> Rows
+fn symmetry(s: Primitive, a: Primitive, b: Primitive) -> Rows
     ensures { result ≡ spec.pack (spec.symmetry_rows doubles (prim s) (prim a) (prim b)) }
 {
     match s {
-        Prim::Plane {
+        Primitive::Plane {
             point: s0,
             normal: ns,
         } => mirror(s0, ns, Pair::of(a, b)),
-        Prim::Line { point: _, dir: _ } => Rows::none(),
-        Prim::Point(_) => Rows::none(),
-        Prim::Circle {
+        Primitive::Line { point: _, dir: _ } => Rows::none(),
+        Primitive::Point(_) => Rows::none(),
+        Primitive::Circle {
             center: _,
             normal: _,
             radius: _,
@@ -513,7 +513,7 @@ fn symmetry(s: Prim, a: Prim, b: Prim) -> Rows
 }
 
 // A joint's frame in the assembly: origin, X, Z.
-#[derive(Drop)]
+#[derive(Clone, Copy)]
 pub struct JointAt {
     pub o: Vec3,
     pub x: Vec3,
@@ -606,7 +606,7 @@ fn joint(kind: JointKind, flip: bool, offset: f64, want: f64, a: JointAt, b: Joi
 }
 
 // A gear's carrier in the assembly: X and Y of its joint frame.
-#[derive(Drop)]
+#[derive(Clone, Copy)]
 pub struct CarrierAt {
     pub x: Vec3,
     pub y: Vec3,

@@ -15,7 +15,7 @@ const SIGN: u64 = 0x8000_0000_0000_0000;
 const HALF: u64 = 0x400_0000;
 
 // the state of the random numbers, how many roots were compared, and how many differed
-#[derive(Drop)]
+#[derive(Clone, Copy)]
 pub struct Tally {
     pub seed: u64,
     pub compared: u64,

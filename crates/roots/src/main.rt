@@ -6,36 +6,36 @@ mod cases;
 mod second;
 
 use cases::Tally;
-use libc::STDOUT_FILENO;
+use std::io;
 
 // A kind's line; the next kind counts from 0 again.
-fn print(name: &[u8], t: Tally) -> Tally {
-    io::write_all(STDOUT_FILENO, name);
-    io::write_all(STDOUT_FILENO, b": compared ");
-    io::print_decimal(STDOUT_FILENO, t.compared);
-    io::write_all(STDOUT_FILENO, b", different ");
-    io::print_decimal(STDOUT_FILENO, t.different);
-    io::write_all(STDOUT_FILENO, b"\n");
-    Tally {
+fn print(rt: &impl Print, name: &str, t: Tally) -> io::Result<Tally> {
+    println!(rt;
+        "{name}: compared {}, different {}",
+        t.compared, t.different
+    )?;
+    Ok(Tally {
         seed: t.seed,
         compared: 0,
         different: 0,
-    }
+    })
 }
 
-fn main() {
+fn main(rt: HostRuntime) -> io::Result<()> {
     let t = Tally {
         seed: 0x9e37_79b9_7f4a_7c15,
         compared: 0,
         different: 0,
     };
-    let t = print(b"every exponent", cases::exponents(t));
-    let t = print(b"subnormals", cases::subnormals(t));
-    let t = print(b"squares and their neighbours", cases::squares(t));
+    let t = print(&rt, "every exponent", cases::exponents(t))?;
+    let t = print(&rt, "subnormals", cases::subnormals(t))?;
+    let t = print(&rt, "squares and their neighbours", cases::squares(t))?;
     let t = print(
-        b"nearest to halfway and their neighbours",
+        &rt,
+        "nearest to halfway and their neighbours",
         cases::halfways(t),
-    );
-    let t = print(b"random bits", cases::randoms(t));
-    let t = print(b"specials", cases::specials(t));
+    )?;
+    let t = print(&rt, "random bits", cases::randoms(t))?;
+    print(&rt, "specials", cases::specials(t))?;
+    Ok(())
 }

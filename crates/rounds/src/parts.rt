@@ -8,7 +8,7 @@ use scene::scene::Scene;
 use slopes::anew_slopes::SlopeParts;
 
 // SolveParts of parts. `seen` has those that the filling of slopes is lent, as it finds them: from the unknowns at `x` on.
-#[derive(Drop)]
+#[derive(Clone, Copy)]
 pub struct SolveParts {
     pub first: usize,
     pub x: usize,

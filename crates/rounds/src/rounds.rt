@@ -15,7 +15,7 @@ use scene::scene::{Scene, rows_at};
 use slopes::anew_slopes::slopes;
 
 // How a run ended: whether it converged, and how many rounds were made.
-#[derive(Drop)]
+#[derive(Clone, Copy)]
 pub struct RunEnd {
     pub converged: bool,
     pub rounds: usize,

@@ -15,7 +15,7 @@ use least_squares::triangle::spread;
 use scene::scene::{Scene, rows_at};
 
 // Whether a trial was better, the sum of squares and the damping after it.
-#[derive(Drop)]
+#[derive(Clone, Copy)]
 pub struct Tried {
     pub better: bool,
     pub cost: f64,

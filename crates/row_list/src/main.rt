@@ -11,7 +11,7 @@ use records::record::rel_at;
 use relations::rows::{Rows, tangent_gap, wrap};
 use scene::scene::rel_rows;
 
-#[derive(Drop)]
+#[derive(Clone, Copy)]
 enum List {
     Rows,
     Wrapped,

@@ -2,7 +2,7 @@
 use Rattle.std.specs.Prelude.{ℕ, ◌<◌, ◌≡◌, false, cond, List, ◌++◌, length, get_or, drop, eqb}
 use Rattle.std.specs.Float.{nan}
 use Rattle.vectors.specs.declared.vec.Vec3.{Vec3}
-use Rattle.relations.specs.declared.geometry.Prim.TheVariants.{Plane}
+use Rattle.relations.specs.declared.geometry.Primitive.TheVariants.{Plane}
 use Rattle.relations.specs.declared.model.BodyRef.TheVariants.{Ground}
 use Rattle.relations.specs.declared.model.End.{End as EndStruct}
 use Rattle.relations.specs.declared.model.Law.TheVariants.{Mate}

@@ -9,7 +9,7 @@ ghost use Rattle.records.specs.Numbers.{flag_number, joint_number, prim_number};
 ghost use Rattle.saving.specs.Saving as spec;
 ghost use Rattle.saving.specs.Fields as fields;
 
-use relations::geometry::Prim;
+use relations::geometry::Primitive;
 use relations::model::{Body, BodyRef, End, JointKind, Law, Rel};
 use vectors::vec::Vec3;
 
@@ -58,7 +58,7 @@ fn body_word(b: BodyRef) -> u16
 }
 
 // What a primitive has in each field of its end.
-#[derive(Drop)]
+#[derive(Clone, Copy)]
 pub struct PrimFields {
     pub number: u8,
     pub point: Vec3,
@@ -66,29 +66,29 @@ pub struct PrimFields {
     pub radius: f64,
 }
 
-fn prim_fields(p: Prim) -> PrimFields
+fn prim_fields(p: Primitive) -> PrimFields
     ensures { fields.PrimFieldsOf (prim p) result }
 {
     match p {
-        Prim::Plane { point, normal } => PrimFields {
+        Primitive::Plane { point, normal } => PrimFields {
             number: 0,
             point,
             direction: normal,
             radius: 0.0,
         },
-        Prim::Line { point, dir } => PrimFields {
+        Primitive::Line { point, dir } => PrimFields {
             number: 1,
             point,
             direction: dir,
             radius: 0.0,
         },
-        Prim::Point(point) => PrimFields {
+        Primitive::Point(point) => PrimFields {
             number: 2,
             point,
             direction: Vec3::ZERO,
             radius: 0.0,
         },
-        Prim::Circle {
+        Primitive::Circle {
             center,
             normal,
             radius,
@@ -101,7 +101,7 @@ fn prim_fields(p: Prim) -> PrimFields
     }
 }
 
-fn prim_number(p: Prim) -> u8
+fn prim_number(p: Primitive) -> u8
     ensures { result ≡ prim_number (prim p) }
 {
     let f = prim_fields(p);
@@ -134,7 +134,7 @@ fn joint_number(kind: JointKind) -> u8
 // The end whose 72 bytes are 0.
 const NO_END: End = End {
     body: BodyRef::Of(0),
-    prim: Prim::Plane {
+    prim: Primitive::Plane {
         point: Vec3::ZERO,
         normal: Vec3::ZERO,
     },
@@ -143,7 +143,7 @@ const NO_END: End = End {
 };
 
 // What a law has in each field of its relation.
-#[derive(Drop)]
+#[derive(Clone, Copy)]
 pub struct LawFields {
     pub number: u8,
     pub joint: u8,

@@ -14,7 +14,7 @@ use writing::bytes::{put_body, put_header, put_rel};
 use writing::write::{body_parts_fault, counts_fault, rel_parts_fault, room_fault};
 
 // The bodies below m and the relations below k; what stands past them has no say.
-#[derive(Drop)]
+#[derive(Clone, Copy)]
 pub struct Scene {
     pub m: usize,
     pub k: usize,

@@ -7,7 +7,7 @@ ghost use Rattle.scene.specs.Scene as spec;
 use vectors::tol;
 
 // How far off a row may be, the most rounds of one run, the most rows that are iterated, and what the dragged body's weights are multiplied by.
-#[derive(Drop)]
+#[derive(Clone, Copy)]
 pub struct Parameters {
     pub tolerance: f64,
     pub rounds: usize,

@@ -21,7 +21,7 @@ use vectors::math::M3;
 use vectors::vec::Vec3;
 
 // Counts of bodies, relations, unknowns and rows; the places of the first body and the first relation in the sheet; each body's first unknown, 65535 for none.
-#[derive(Drop)]
+#[derive(Clone, Copy)]
 pub struct Scene {
     pub m: usize,
     pub k: usize,
@@ -440,7 +440,7 @@ fn moves(sheet: &[u8], o: usize, rels: usize, k: usize, i: usize) -> bool
 }
 
 // The number of unknowns so far, and each body's first.
-#[derive(Drop)]
+#[derive(Clone, Copy)]
 pub struct Unknowns {
     pub n: usize,
     pub index: [u16; 64],

@@ -17,13 +17,13 @@ use sheet::calls::{sheet_joint_reading, sheet_judge, sheet_snap};
 use solving::{Call, Chosen, dof_right, solve_right};
 use std::num::wrapping_add_u64;
 
-#[derive(Drop)]
+#[derive(Clone, Copy)]
 struct Tally {
     answers: u64,
     wrong: u64,
 }
 
-#[derive(Drop)]
+#[derive(Clone, Copy)]
 enum List {
     Sheets,
     Fields,

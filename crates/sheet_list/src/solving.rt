@@ -11,7 +11,7 @@ use sheet::freedoms::sheet_dof;
 use sheet::solving::{sheet_solve, sheet_solve_with};
 
 // What a call of `solve` chooses; call 6 chooses nothing, and it is not looked at.
-#[derive(Drop)]
+#[derive(Clone, Copy)]
 pub struct Chosen {
     pub tolerance: f64,
     pub rounds: u32,
@@ -21,7 +21,7 @@ pub struct Chosen {
 
 // A call as the list gives it: which one, the relation or the drag, how many doubles are lent of scratch and of each output, what it chooses, and the number that
 // is answered.
-#[derive(Drop)]
+#[derive(Clone, Copy)]
 pub struct Call {
     pub which: u64,
     pub number: u64,

@@ -18,7 +18,7 @@ use scene::scene::{Scene, clear, moved_pose, poses_at, put_pose};
 use vectors::vec::Vec3;
 
 // Where things stand: the unknowns, the slopes, the poses.
-#[derive(Drop)]
+#[derive(Clone, Copy)]
 pub struct SlopeParts {
     pub x: usize,
     pub slopes: usize,

@@ -10,7 +10,7 @@ ghost use Rattle.relations.specs.Model.{end_of, law_of, rel_of, pose};
 ghost use Rattle.relations.specs.Rows.{joint_of, joint_at, pair_of};
 ghost use Rattle.snapping.specs.Snap as spec;
 
-use relations::geometry::{Direction, Prim};
+use relations::geometry::{Direction, Primitive};
 use relations::model::{End, JointKind, Law, Pose, Rel};
 use relations::rows::{JointAt, Pair, perp};
 use relations::{geometry, rows};
@@ -20,7 +20,7 @@ use vectors::space::Frame;
 use vectors::vec::Vec3;
 
 // A rigid motion x -> r x + t.
-#[derive(Drop)]
+#[derive(Clone, Copy)]
 pub struct Motion {
     pub r: M3,
     pub t: Vec3,
@@ -55,7 +55,7 @@ impl Motion {
     }
 
     // An end's geometry after the motion, its body at the pose q before.
-    fn placed(self, e: End, q: Pose) -> Prim
+    fn placed(self, e: End, q: Pose) -> Primitive
         ensures { prim result ≡ geometry.placed doubles (spec.moved (spec.motion self) (pose q)) (end_of e).prim }
     {
         e.placed(self.moved(q))
@@ -154,7 +154,7 @@ fn joint_target(kind: JointKind, flip: bool, da: Vec3) -> Direction
 }
 
 // The direction that b's is turned to, from a's direction da and b's db.
-fn target_dir(law: Law, pa: Prim, pb: Prim, da: Vec3, db: Vec3) -> Direction
+fn target_dir(law: Law, pa: Primitive, pb: Primitive, da: Vec3, db: Vec3) -> Direction
     ensures { direction result ≡ spec.target_dir (law_of law) (prim pa) (prim pb) (vec da) (vec db) }
 {
     match law {
@@ -188,7 +188,7 @@ fn target_dir(law: Law, pa: Prim, pb: Prim, da: Vec3, db: Vec3) -> Direction
 }
 
 // The direction that takes part in the turning: a joint's is its frame's Z.
-fn snap_dir(law: Law, p: Prim, j: JointAt) -> Direction
+fn snap_dir(law: Law, p: Primitive, j: JointAt) -> Direction
     ensures { direction result ≡ spec.snap_dir (law_of law) (prim p) (joint_of j) }
 {
     match law {
@@ -234,7 +234,7 @@ fn turn_to(db: Vec3, to: Direction) -> M3
     }
 }
 
-fn turn_onto(law: Law, pa: Prim, pb: Prim, da: Direction, db: Direction) -> M3
+fn turn_onto(law: Law, pa: Primitive, pb: Primitive, da: Direction, db: Direction) -> M3
     ensures { mat result ≡ spec.turn_onto (law_of law) (prim pa) (prim pb) (direction da) (direction db) }
 {
     match da {
@@ -318,53 +318,53 @@ fn slide_from(want: f64, q: Vec3, p: Vec3, n: Vec3) -> Vec3
     n.scale(q.sub(p).dot(n) - want)
 }
 
-fn mate_slide(offset: f64, a: Prim, b: Prim) -> Vec3
+fn mate_slide(offset: f64, a: Primitive, b: Primitive) -> Vec3
     ensures { vec result ≡ spec.mate_slide offset (prim a) (prim b) }
 {
     match a {
-        Prim::Plane {
+        Primitive::Plane {
             point: pa,
             normal: na,
         } => match b {
-            Prim::Plane {
+            Primitive::Plane {
                 point: q,
                 normal: _,
             } => slide_to(offset, q, pa, na),
-            Prim::Line { point: q, dir: _ } => slide_to(offset, q, pa, na),
-            Prim::Point(q) => slide_to(offset, q, pa, na),
-            Prim::Circle {
+            Primitive::Line { point: q, dir: _ } => slide_to(offset, q, pa, na),
+            Primitive::Point(q) => slide_to(offset, q, pa, na),
+            Primitive::Circle {
                 center: _,
                 normal: _,
                 radius: _,
             } => Vec3::ZERO,
         },
-        Prim::Line { point: pa, dir: da } => match b {
-            Prim::Plane {
+        Primitive::Line { point: pa, dir: da } => match b {
+            Primitive::Plane {
                 point: p,
                 normal: n,
             } => slide_from(offset, pa, p, n),
-            Prim::Line { point: q, dir: _ } => perp(pa.sub(q), da),
-            Prim::Point(q) => perp(q.sub(pa), da).neg(),
-            Prim::Circle {
+            Primitive::Line { point: q, dir: _ } => perp(pa.sub(q), da),
+            Primitive::Point(q) => perp(q.sub(pa), da).neg(),
+            Primitive::Circle {
                 center: _,
                 normal: _,
                 radius: _,
             } => Vec3::ZERO,
         },
-        Prim::Point(q) => match b {
-            Prim::Plane {
+        Primitive::Point(q) => match b {
+            Primitive::Plane {
                 point: p,
                 normal: n,
             } => slide_from(offset, q, p, n),
-            Prim::Line { point: p, dir: d } => perp(q.sub(p), d),
-            Prim::Point(p) => q.sub(p),
-            Prim::Circle {
+            Primitive::Line { point: p, dir: d } => perp(q.sub(p), d),
+            Primitive::Point(p) => q.sub(p),
+            Primitive::Circle {
                 center: _,
                 normal: _,
                 radius: _,
             } => Vec3::ZERO,
         },
-        Prim::Circle {
+        Primitive::Circle {
             center: _,
             normal: _,
             radius: _,
@@ -372,29 +372,29 @@ fn mate_slide(offset: f64, a: Prim, b: Prim) -> Vec3
     }
 }
 
-fn flush_slide(offset: f64, a: Prim, b: Prim) -> Vec3
+fn flush_slide(offset: f64, a: Primitive, b: Primitive) -> Vec3
     ensures { vec result ≡ spec.flush_slide offset (prim a) (prim b) }
 {
     match a {
-        Prim::Plane {
+        Primitive::Plane {
             point: pa,
             normal: na,
         } => match b {
-            Prim::Plane {
+            Primitive::Plane {
                 point: q,
                 normal: _,
             } => slide_to(offset, q, pa, na),
-            Prim::Line { point: _, dir: _ } => Vec3::ZERO,
-            Prim::Point(_) => Vec3::ZERO,
-            Prim::Circle {
+            Primitive::Line { point: _, dir: _ } => Vec3::ZERO,
+            Primitive::Point(_) => Vec3::ZERO,
+            Primitive::Circle {
                 center: _,
                 normal: _,
                 radius: _,
             } => Vec3::ZERO,
         },
-        Prim::Line { point: _, dir: _ } => Vec3::ZERO,
-        Prim::Point(_) => Vec3::ZERO,
-        Prim::Circle {
+        Primitive::Line { point: _, dir: _ } => Vec3::ZERO,
+        Primitive::Point(_) => Vec3::ZERO,
+        Primitive::Circle {
             center: _,
             normal: _,
             radius: _,
@@ -409,84 +409,84 @@ fn to_origin(offset: f64, oa: Vec3, za: Vec3, ob: Vec3) -> Vec3
     oa.add(za.scale(offset)).sub(ob)
 }
 
-fn insert_slide(offset: f64, a: Prim, b: Prim) -> Vec3
+fn insert_slide(offset: f64, a: Primitive, b: Primitive) -> Vec3
     ensures { vec result ≡ spec.insert_slide offset (prim a) (prim b) }
 {
     match a {
-        Prim::Circle {
+        Primitive::Circle {
             center: ca,
             normal: na,
             radius: _,
         } => match b {
-            Prim::Circle {
+            Primitive::Circle {
                 center: cb,
                 normal: _,
                 radius: _,
             } => to_origin(offset, ca, na, cb),
-            Prim::Plane {
+            Primitive::Plane {
                 point: _,
                 normal: _,
             } => Vec3::ZERO,
-            Prim::Line { point: _, dir: _ } => Vec3::ZERO,
-            Prim::Point(_) => Vec3::ZERO,
+            Primitive::Line { point: _, dir: _ } => Vec3::ZERO,
+            Primitive::Point(_) => Vec3::ZERO,
         },
-        Prim::Plane {
+        Primitive::Plane {
             point: _,
             normal: _,
         } => Vec3::ZERO,
-        Prim::Line { point: _, dir: _ } => Vec3::ZERO,
-        Prim::Point(_) => Vec3::ZERO,
+        Primitive::Line { point: _, dir: _ } => Vec3::ZERO,
+        Primitive::Point(_) => Vec3::ZERO,
     }
 }
 
 // Toward a plane, as far as the tangent wants; two round ends stay.
-fn tangent_slide(want: f64, a: Prim, b: Prim) -> Vec3
+fn tangent_slide(want: f64, a: Primitive, b: Primitive) -> Vec3
     ensures { vec result ≡ spec.tangent_slide want (prim a) (prim b) }
 {
     match a {
-        Prim::Plane {
+        Primitive::Plane {
             point: p,
             normal: n,
         } => match b {
-            Prim::Line { point: q, dir: _ } => slide_to(want, q, p, n),
-            Prim::Point(q) => slide_to(want, q, p, n),
-            Prim::Plane {
+            Primitive::Line { point: q, dir: _ } => slide_to(want, q, p, n),
+            Primitive::Point(q) => slide_to(want, q, p, n),
+            Primitive::Plane {
                 point: _,
                 normal: _,
             } => Vec3::ZERO,
-            Prim::Circle {
+            Primitive::Circle {
                 center: _,
                 normal: _,
                 radius: _,
             } => Vec3::ZERO,
         },
-        Prim::Line { point: q, dir: _ } => match b {
-            Prim::Plane {
+        Primitive::Line { point: q, dir: _ } => match b {
+            Primitive::Plane {
                 point: p,
                 normal: n,
             } => slide_from(want, q, p, n),
-            Prim::Line { point: _, dir: _ } => Vec3::ZERO,
-            Prim::Point(_) => Vec3::ZERO,
-            Prim::Circle {
+            Primitive::Line { point: _, dir: _ } => Vec3::ZERO,
+            Primitive::Point(_) => Vec3::ZERO,
+            Primitive::Circle {
                 center: _,
                 normal: _,
                 radius: _,
             } => Vec3::ZERO,
         },
-        Prim::Point(q) => match b {
-            Prim::Plane {
+        Primitive::Point(q) => match b {
+            Primitive::Plane {
                 point: p,
                 normal: n,
             } => slide_from(want, q, p, n),
-            Prim::Line { point: _, dir: _ } => Vec3::ZERO,
-            Prim::Point(_) => Vec3::ZERO,
-            Prim::Circle {
+            Primitive::Line { point: _, dir: _ } => Vec3::ZERO,
+            Primitive::Point(_) => Vec3::ZERO,
+            Primitive::Circle {
                 center: _,
                 normal: _,
                 radius: _,
             } => Vec3::ZERO,
         },
-        Prim::Circle {
+        Primitive::Circle {
             center: _,
             normal: _,
             radius: _,
@@ -509,7 +509,7 @@ fn joint_slide(kind: JointKind, offset: f64, oa: Vec3, za: Vec3, ob: Vec3) -> Ve
 }
 
 // Ends of the radii ra and rb, placed, b's after the turning; ob is b's joint origin then.
-fn slide(law: Law, ra: f64, rb: f64, pa: Prim, pb: Prim, ja: JointAt, ob: Vec3) -> Vec3
+fn slide(law: Law, ra: f64, rb: f64, pa: Primitive, pb: Primitive, ja: JointAt, ob: Vec3) -> Vec3
     ensures { vec result ≡ spec.slide (law_of law) ra rb (prim pa) (prim pb) (joint_of ja) (vec ob) }
 {
     match law {
@@ -544,7 +544,7 @@ fn slide(law: Law, ra: f64, rb: f64, pa: Prim, pb: Prim, ja: JointAt, ob: Vec3) 
 }
 
 // b's direction turned onto a's, then about the joint's axis.
-fn turning(law: Law, pa: Prim, pb: Prim, ja: JointAt, jb: JointAt) -> M3
+fn turning(law: Law, pa: Primitive, pb: Primitive, ja: JointAt, jb: JointAt) -> M3
     ensures { mat result ≡ spec.turning (law_of law) (prim pa) (prim pb) (joint_of ja) (joint_of jb) }
 {
     let da = snap_dir(law, pa, ja);

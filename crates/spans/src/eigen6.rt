@@ -10,14 +10,14 @@ ghost use Rattle.spans.specs.Eigen6.{eigens6, past6, lower6, rotation_at};
 use eigen::eigen::{cosine, tangent};
 
 // An eigenvalue with its vector, of which the first n entries count.
-#[derive(Drop)]
+#[derive(Clone, Copy)]
 pub struct Eigen6 {
     pub value: f64,
     pub vector: [f64; 6],
 }
 
 // The cosine and sine of a turn, or no turn.
-#[derive(Drop)]
+#[derive(Clone, Copy)]
 struct Rotation {
     turns: bool,
     c: f64,

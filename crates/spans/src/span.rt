@@ -10,7 +10,7 @@ ghost use Rattle.spans.specs.Basis.{first, basis, basis_of, longer3, past3};
 use vectors::vec::Vec3;
 
 // The first `count` vectors; the others are zero.
-#[derive(Drop)]
+#[derive(Clone, Copy)]
 pub struct Basis {
     pub count: usize,
     pub vectors: [Vec3; 3],

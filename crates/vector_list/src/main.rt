@@ -12,7 +12,7 @@ use lists::vector::vector;
 use vectors::math::{M3, frame_of, rotation_between};
 use vectors::space::Frame;
 
-#[derive(Drop)]
+#[derive(Clone, Copy)]
 enum List {
     Exp,
     Mul,

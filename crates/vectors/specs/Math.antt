@@ -1,5 +1,5 @@
 -- Rotations of math.rs: `M3`, `rotation_between`, `frame_of`. Document 01, "The train of files", item 3. Definitions only; `axis_angle` is left out.
-use Rattle.std.specs.Prelude.{ℕ, zero, suc, Bool, cond, Float}
+use Rattle.std.specs.Prelude.{ℕ, zero, suc, cond, Float}
 use Rattle.std.proofs.Math.Option.{Option}
 use Rattle.std.specs.Float.{binary64}
 use Rattle.std.specs.Float.Ieee.{add, sub, mul, div, neg, lt, of_bits}

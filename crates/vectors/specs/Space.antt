@@ -1,5 +1,5 @@
 -- `Frame` of space.rs. Document 01, "The train of files", item 2. Definitions only; `Axis` and `Aabb3` are left out.
-use Rattle.std.specs.Prelude.{Bool, not, ◌||◌, cond, Float}
+use Rattle.std.specs.Prelude.{not, ◌||◌, cond, Float}
 use Rattle.std.proofs.Math.Option.{Option, none, some}
 use Rattle.std.specs.Float.{binary64}
 use Rattle.std.specs.Float.Ieee.{lt, le, of_bits}

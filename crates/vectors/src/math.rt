@@ -11,7 +11,7 @@ use crate::vec::Vec3;
 const PI: f64 = 3.141592653589793;
 
 // A 3x3 matrix of three rows. Rotations map part directions to assembly directions.
-#[derive(Drop)]
+#[derive(Clone, Copy)]
 pub struct M3 {
     pub r0: Vec3,
     pub r1: Vec3,

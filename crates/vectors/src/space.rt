@@ -7,7 +7,7 @@ use crate::tol;
 use crate::vec::Vec3;
 
 // A right-handed orthonormal coordinate frame: an origin and unit X, Y, Z directions.
-#[derive(Drop)]
+#[derive(Clone, Copy)]
 pub struct Frame {
     pub origin: Vec3,
     pub x: Vec3,
@@ -16,7 +16,7 @@ pub struct Frame {
 }
 
 // A frame, or none.
-#[derive(Drop)]
+#[derive(Clone, Copy)]
 pub enum NewFrame {
     Made(Frame),
     Nothing,

@@ -5,7 +5,7 @@ ghost use Rattle.vectors.specs.Vec as spec;
 
 use crate::{root, tol};
 
-#[derive(Drop)]
+#[derive(Clone, Copy)]
 pub struct Vec3 {
     pub x: f64,
     pub y: f64,

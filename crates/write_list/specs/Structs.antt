@@ -6,7 +6,7 @@ use Rattle.std.specs.Float.Ieee.{of_bits}
 use Rattle.vectors.specs.declared.vec.Vec3.{Vec3}
 use Rattle.relations.specs.declared.model.Body.{Body}
 use Rattle.relations.specs.declared.model.BodyRef.TheVariants.{Ground}
-use Rattle.relations.specs.declared.geometry.Prim.TheVariants.{Point}
+use Rattle.relations.specs.declared.geometry.Primitive.TheVariants.{Point}
 use Rattle.relations.specs.declared.model.End.{End}
 use Rattle.relations.specs.declared.model.Law.TheVariants.{Mate}
 use Rattle.relations.specs.declared.model.Rel.{Rel}

@@ -4,7 +4,7 @@ ghost use Rattle.std.specs.Prelude.{◌<◌};
 
 use crate::structs::plain;
 use lists::answers::counted;
-use relations::geometry::Prim;
+use relations::geometry::Primitive;
 use relations::model::{BodyRef, End, Law, Rel};
 use saving::save::{Scene, save};
 use vectors::vec::Vec3;
@@ -22,7 +22,7 @@ fn tried(wrong: u64, scene: Scene, want: u32) -> u64 {
 fn end(body: BodyRef, radius: f64, mirrored: bool) -> End {
     End {
         body,
-        prim: Prim::Point(Vec3::ZERO),
+        prim: Primitive::Point(Vec3::ZERO),
         radius,
         mirrored,
     }

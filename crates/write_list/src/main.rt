@@ -19,7 +19,7 @@ use structs::saved_again;
 const BEFORE: u8 = 0xA5;
 
 // A scene as the list gives it: m, k, how many bytes, words and numbers are lent, and how many bytes for the sheet.
-#[derive(Drop)]
+#[derive(Clone, Copy)]
 struct Lent {
     m: u64,
     k: u64,

@@ -4,7 +4,7 @@ ghost use Rattle.std.specs.Prelude.{◌+◌, ◌*◌, ◌≤◌, length, ◌≡�
 ghost use Rattle.write_list.specs.Structs as spec;
 
 use records::record::{body_at, rel_at};
-use relations::geometry::Prim;
+use relations::geometry::Primitive;
 use relations::model::{Body, BodyRef, End, Law, Rel};
 use saving::save::{Scene, save};
 use vectors::space::Frame;
@@ -20,7 +20,7 @@ const BODY: Body = Body {
 // A point on the ground.
 const GROUND: End = End {
     body: BodyRef::Ground,
-    prim: Prim::Point(Vec3::ZERO),
+    prim: Primitive::Point(Vec3::ZERO),
     radius: 0.0,
     mirrored: false,
 };

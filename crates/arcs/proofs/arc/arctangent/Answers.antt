@@ -12,6 +12,6 @@ pub returns-else-is_finite : goal.returns-else-is_finite
 unfolding arctangent
 returns-else-is_finite c =
     elim c.else-is_finite.branch [
-        else-is_finite-via-then-is_finite+else-is_finite-2 w ↦ rw (not_a_number, ← c.is_finite.ensures, w.if-is_finite.true, ← w.is_finite-then-is_finite.ensures, w.if-is_finite-2.false)
+      | else-is_finite-via-then-is_finite+else-is_finite-2 w ↦ rw (not_a_number, ← c.is_finite.ensures, w.if-is_finite.true, ← w.is_finite-then-is_finite.ensures, w.if-is_finite-2.false)
       | else-is_finite-via-else-is_finite w ↦ rw (not_a_number, ← c.is_finite.ensures, w.if-is_finite.false)
     ]

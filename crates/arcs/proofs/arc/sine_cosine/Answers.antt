@@ -12,6 +12,6 @@ pub returns-else-is_finite : goal.returns-else-is_finite
 unfolding sine_cosine
 returns-else-is_finite c =
     elim c.else-is_finite.branch [
-        else-is_finite-via-then-is_finite+else-not-t w ↦ rw (not_a_number, ← c.is_finite.ensures, w.if-is_finite.true, w.if-not-t.false)
+      | else-is_finite-via-then-is_finite+else-not-t w ↦ rw (not_a_number, ← c.is_finite.ensures, w.if-is_finite.true, w.if-not-t.false)
       | else-is_finite-via-else-is_finite w ↦ rw (not_a_number, ← c.is_finite.ensures, w.if-is_finite.false)
     ]

@@ -11,28 +11,29 @@ use Rattle.arcs.proofs.root.positive_root.Goals as goal
 pub float_to_bits-b : goal.float_to_bits-b
 float_to_bits-b c = positive_no_nan c.args.x c.requires
 
+-- `held` is what owning an `f64` tells: the format holds it
 pub opened-n-requires : goal.opened-n-requires
 opened-n-requires c =
     let held : T (fits binary64 c.args.x) =
-        subst T (sym c.well_formed.0.1) tt in
-    (significand_pos c.args.x (held) c.requires, field_finite c.args.x (held) c.requires)
+    subst T (sym c.well_formed.0.1) tt in
+    (significand_pos c.args.x held c.requires, field_finite c.args.x held c.requires)
 
 pub overflow_add-result : goal.overflow_add-result
 overflow_add-result c =
     let held : T (fits binary64 c.args.x) =
-        subst T (sym c.well_formed.0.1) tt in
+    subst T (sym c.well_formed.0.1) tt in
     let found : Joined c.opened-n.result.k c.nearest_root-q.result (c.opened-n.result.k * 2 ^ 52 + c.nearest_root-q.result) =
-        root_joined _ held c.requires _ _ _ c.opened-n.ensures c.nearest_root-q.ensures in
+    root_joined _ held c.requires _ _ _ c.opened-n.ensures c.nearest_root-q.ensures in
     omega (arith, found.plus)
 
 pub float_from_bits-result : goal.float_from_bits-result
 float_from_bits-result c =
     let held : T (fits binary64 c.args.x) =
-        subst T (sym c.well_formed.0.1) tt in
-    root_no_nan _ (held) c.requires _ _ _ c.opened-n.ensures c.nearest_root-q.ensures
+    subst T (sym c.well_formed.0.1) tt in
+    root_no_nan _ held c.requires _ _ _ c.opened-n.ensures c.nearest_root-q.ensures
 
 pub returns : goal.returns
 returns c =
     let held : T (fits binary64 c.args.x) =
-        subst T (sym c.well_formed.0.1) tt in
-    root_found _ (held) c.requires _ _ _ c.opened-n.ensures c.nearest_root-q.ensures
+    subst T (sym c.well_formed.0.1) tt in
+    root_found _ held c.requires _ _ _ c.opened-n.ensures c.nearest_root-q.ensures

@@ -14,11 +14,12 @@ returns-then-x-2 c = infinity_arm c.args.x (rw is_infinity at c.if-x-2.true)
 pub returns-else-x-2 : goal.returns-else-x-2
 returns-else-x-2 c = c.unit_or_root.ensures
 
+-- `held` is what owning an `f64` tells: the format holds it
 pub returns-then-x-3 : goal.returns-then-x-3
 returns-then-x-3 c =
     let held : T (fits binary64 c.args.x) =
-        subst T (sym c.well_formed.0.1) tt in
-    zero_arm c.args.x (held) (rw is_zero at c.if-x-3.true)
+    subst T (sym c.well_formed.0.1) tt in
+    zero_arm c.args.x held (rw is_zero at c.if-x-3.true)
 
 pub returns-else-x-3 : goal.returns-else-x-3
 returns-else-x-3 c = rw is_nan (nan_arm c.args.x (rw is_zero at c.if-x.false) (rw is_zero at c.if-x-3.false))

@@ -23,11 +23,12 @@ unit_root x h e =
 pub float_to_bits-x : goal.float_to_bits-x
 float_to_bits-x c = positive_no_nan c.args.x c.requires
 
+-- `held` is what owning an `f64` tells: the format holds it
 pub returns-then-x-eq-ONE : goal.returns-then-x-eq-ONE
 returns-then-x-eq-ONE c =
     let held : T (fits binary64 c.args.x) =
-        subst T (sym c.well_formed.0.1) tt in
-    unit_root _ (held) c.if-x-eq-ONE.true
+    subst T (sym c.well_formed.0.1) tt in
+    unit_root _ held c.if-x-eq-ONE.true
 
 pub positive_root-requires : goal.positive_root-requires
 positive_root-requires c = c.requires

@@ -51,7 +51,7 @@ loop-i-preserved c =
     let t = c.loop-i.invariant in
     let l = c.loop-i-test.true in
     elim c.if-q-more.branch [
-        then-q-more w ↦ rw (w.q-is, w.rem-is) (digit_one _ _ _ _ _ t l w.if-q-more.true)
+      | then-q-more w ↦ rw (w.q-is, w.rem-is) (digit_one _ _ _ _ _ t l w.if-q-more.true)
       | else-q-more w ↦ rw (w.q-is, w.rem-is) (digit_zero _ _ _ _ _ t l w.if-q-more.false)
     ]
 

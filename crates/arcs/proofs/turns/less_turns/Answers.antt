@@ -38,11 +38,12 @@ int_to_float-near c =
     let x = add binary64 (mul binary64 c.args.t (of_bits binary64 0x3FC4_5F30_6DC9_C883)) (of_bits binary64 0x432F_FFFF_FFFF_FFFF) in
     le→leb (to_bits binary64 x % 0x4_0000) (2 ^ 53) (le_trans (le_of_lt (below (to_bits binary64 x))) (leb→le (2 ^ 18) (2 ^ 53) tt))
 
+-- `held` is what owning an `f64` tells: the format holds it
 pub returns-then-left-2 : goal.returns-then-left-2
 unfolding of_bits
 returns-then-left-2 c =
     let held : T (fits binary64 c.args.t) =
-        subst T (sym c.well_formed.0.1) tt in
+    subst T (sym c.well_formed.0.1) tt in
     found c.args.t _ _ held c.requires (sub-fits binary64 _ _) (below _) c.if-near-gt0.true (passes c.if-k-near.true) (passes c.if-left.true) (passes c.if-left-2.true)
 
 pub turns-k-requires : goal.turns-k-requires

@@ -10,7 +10,6 @@ use Rattle.arcs.specs.TurnSteps.{Room, turn}
 use Rattle.arcs.proofs.TurnLaws.{turns_is}
 use Rattle.arcs.proofs.turns.turns.Goals as goal
 
--- the angle in units of 2 ^ -84
 module _ (v k room : ℕ) (h : Room v k room) (more : 1 < room) where
   upper : leb ((k + room / 2) * turn) v ≡ true → Room v (k + room / 2) (room - room / 2)
   upper t = let l = leb-true ((k + room / 2) * turn) v t in record { fit = l; over = omega (arith, h.over); top = omega (arith, h.top); some = omega arith }

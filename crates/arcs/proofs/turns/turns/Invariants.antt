@@ -3,6 +3,7 @@ use Prim.Native.Nat.{ℕ, ◌+◌, ◌*◌, ◌^◌}
 use Rattle.arcs.specs.TurnSteps.{Room}
 use Rattle.arcs.proofs.turns.turns.Given as goal
 
+-- the angle in units of 2 ^ -84
 abbrev pub all : ℕ → ℕ → ℕ
 all high low = (high * 2 ^ 16 + low) * 2 ^ 38
 

@@ -1,0 +1,48 @@
+-- `eigen::swap_columns`: the rows are gone through one after another. The loop's invariant: in the first k rows the entries have changed places. Assumes nothing.
+use mathlib.Core.Path.{◌≡◌, refl, ◌∙◌}
+use Prim.Native.Nat.{◌+◌, ◌*◌, ◌≤◌}
+use native.Mathlib.Omega.{arith}
+use native.Mathlib.Numerals.{add-one}
+use Rattle.eigen.specs.EigenMemory.{swap_columns}
+use Rattle.eigen.proofs.EigenLaws.{row_of}
+use Rattle.eigen.proofs.eigen.swap_columns.Goals as goal
+
+pub loop-k-init : goal.loop-k-init
+unfolding swap_columns
+loop-k-init c = (omega arith, refl, refl)
+
+pub overflow_mul-o : goal.overflow_mul-o
+overflow_mul-o c =
+    let row_in : let a = c.args in c.loop-k.k * a.n + a.n ≤ a.rows * a.n =
+    row_of c.args.n c.loop-k-test.true in
+    omega (arith, row_in)
+
+pub overflow_add-o : goal.overflow_add-o
+overflow_add-o c =
+    let row_in : let a = c.args in c.loop-k.k * a.n + a.n ≤ a.rows * a.n =
+    row_of c.args.n c.loop-k-test.true in
+    omega (arith, row_in)
+
+pub overflow_add-o-in-loop-k : goal.overflow_add-o-in-loop-k
+overflow_add-o-in-loop-k c =
+    let row_in : let a = c.args in c.loop-k.k * a.n + a.n ≤ a.rows * a.n =
+    row_of c.args.n c.loop-k-test.true in
+    omega (arith, row_in)
+
+pub swap-requires : goal.swap-requires
+swap-requires c =
+    let row_in : let a = c.args in c.loop-k.k * a.n + a.n ≤ a.rows * a.n =
+    row_of c.args.n c.loop-k-test.true in
+    omega (arith, row_in)
+
+pub loop-k-preserved : goal.loop-k-preserved
+unfolding swap_columns
+loop-k-preserved c =
+    let l = c.loop-k in
+    (omega arith, c.swap.auto.l ∙ l.invariant.1, rw (add-one, ← l.invariant.2) c.swap.ensures)
+
+pub returns : goal.returns
+returns c =
+    let l = c.loop-k in
+    let e : l.k ≡ c.args.rows = omega arith in
+    rw e at l.invariant.2

@@ -1,0 +1,6 @@
+-- `records::record::vec_at` meets its contract: the definition is a record of three doubles, each of them what one call promises at its place. Assumes nothing.
+use borrow.Author.Rules.{rules}
+use Rattle.records.proofs.record.vec_at.Goals as goal
+
+pub returns : goal.returns
+returns c = cc

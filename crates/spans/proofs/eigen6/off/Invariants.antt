@@ -1,0 +1,14 @@
+-- `eigen6::off` meets its contract. The loop's invariant: s is the sum of the first i rows. Assumes nothing.
+use native.Mathlib.Omega.{arith}
+use Prim.Native.Nat.{◌-◌, ◌≤◌}
+use mathlib.Core.Path.{◌≡◌, refl}
+use native.Mathlib.Numerals.{add-one}
+use Rattle.eigen.specs.Eigen.{off_to}
+use Rattle.spans.specs.Flat.{flat}
+use Rattle.spans.proofs.eigen6.off.Given as goal
+
+abbrev pub invariant-loop-i : goal.invariant-loop-i
+invariant-loop-i l = (l.i ≤ l.n) × (l.s ≡ off_to (flat l.n l.m) l.n l.i)
+
+abbrev pub decreases-loop-i : goal.decreases-loop-i
+decreases-loop-i l = l.n - l.i

@@ -1,0 +1,16 @@
+-- `span::longest` meets its contract. The loop's invariant: m and the vectors left give what all do. Assumes nothing.
+use native.Mathlib.Omega.{arith}
+use Prim.Native.Nat.{◌≤◌, ◌-◌}
+use mathlib.Core.Path.{◌≡◌, refl, sym, ◌∙◌}
+use lib.ListN.{length, drop}
+use Rattle.numbers.specs.Double.{zero64}
+use Rattle.spans.specs.Span.{longest}
+use Rattle.spans.specs.Basis.{first}
+use Rattle.spans.proofs.SpanLaws.{longest_step, longest_end}
+use Rattle.spans.proofs.span.longest.Given as goal
+
+abbrev pub invariant-loop-i : goal.invariant-loop-i
+invariant-loop-i l = (l.i ≤ l.k) × (length l.vs ≡ 6) × (longest (drop l.i (first l.k l.vs)) l.m ≡ longest (first l.k l.vs) zero64)
+
+abbrev pub decreases-loop-i : goal.decreases-loop-i
+decreases-loop-i l = l.k - l.i
