@@ -12,7 +12,7 @@
 # much it compared. Ends with 0 if nothing differs and every kind of case that is wanted was met. Where tenon's sources or rustc are missing
 # it says that nothing was compared, and ends with 0, or with 1 if CI is set; where cc or c++ is missing it says so of the programs in
 # examples/, and goes on, or ends with 1 if CI is set.
-# Takes 100 to 180 s on two cores, by what else they do.
+# Took 100 to 180 s on two cores with libraries of the kit before rattle-kit-13f.
 set -u
 cd "$(dirname "$0")" || exit 2
 failed=0

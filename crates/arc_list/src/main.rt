@@ -8,6 +8,8 @@
 use arcs::arc;
 use lists::answers::{counted, same};
 use lists::list::{END, double, word};
+use std::io;
+use std::io::Read;
 use std::num::wrapping_add_u64;
 
 #[derive(Drop)]
@@ -17,10 +19,10 @@ struct Tally {
     wrong: u64,
 }
 
-fn sines(n: Tally) -> Tally {
-    let t = double(0);
-    let sine = word(0);
-    let cosine = word(0);
+fn sines(input: &mut impl Read, n: Tally) -> Tally {
+    let t = double(input);
+    let sine = word(input);
+    let cosine = word(input);
     let r = arc::sine_cosine(t);
     let whole = same(r.sine, sine) & same(r.cosine, cosine);
     let apart = same(arc::sine(t), sine) & same(arc::cosine(t), cosine);
@@ -31,23 +33,23 @@ fn sines(n: Tally) -> Tally {
     }
 }
 
-fn arctangents(n: Tally) -> Tally {
-    let y = double(0);
-    let x = double(0);
+fn arctangents(input: &mut impl Read, n: Tally) -> Tally {
+    let y = double(input);
+    let x = double(input);
     Tally {
         sines: n.sines,
         arctangents: wrapping_add_u64(n.arctangents, 1),
-        wrong: counted(n.wrong, same(arc::arctangent(y, x), word(0))),
+        wrong: counted(n.wrong, same(arc::arctangent(y, x), word(input))),
     }
 }
 
 // A record's first number says what follows.
-fn record(n: Tally, kind: u64) -> Tally {
+fn record(input: &mut impl Read, n: Tally, kind: u64) -> Tally {
     if kind == 0 {
-        return sines(n);
+        return sines(input, n);
     }
     if kind == 1 {
-        return arctangents(n);
+        return arctangents(input, n);
     }
     Tally {
         sines: n.sines,
@@ -56,35 +58,30 @@ fn record(n: Tally, kind: u64) -> Tally {
     }
 }
 
-fn line(name: &[u8], n: u64) {
-    io::write_all(1, name);
-    io::print_decimal(1, n);
-    io::write_all(1, b"\n");
-}
-
 // Reads and counts records until the input ends.
-fn replay() -> Tally {
+fn replay(input: &mut impl Read) -> Tally {
     let mut n = Tally {
         sines: 0,
         arctangents: 0,
         wrong: 0,
     };
-    let mut i = 0usize;
-    while i < 100000 {
-        let kind = word(0);
+    for _ in 0..100000 {
+        let kind = word(input);
         if kind == END {
             return n;
         }
-        let more = record(n, kind);
-        n = more;
-        i += 1;
+        n = record(input, n, kind);
     }
     n
 }
 
-fn main() {
-    let n = replay();
-    line(b"sines and cosines ", n.sines);
-    line(b"arctangents ", n.arctangents);
-    line(b"wrong ", n.wrong);
+fn line(rt: &impl Print, name: &str, n: u64) -> io::Result<()> {
+    println!(rt; "{name} {n}")
+}
+
+fn main(rt: HostRuntime) -> io::Result<()> {
+    let n = replay(&mut rt.reader());
+    line(&rt, "sines and cosines", n.sines)?;
+    line(&rt, "arctangents", n.arctangents)?;
+    line(&rt, "wrong", n.wrong)
 }

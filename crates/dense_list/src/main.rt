@@ -11,6 +11,9 @@ use lists::answers::{counted, same};
 use lists::list;
 use lists::list::word;
 use relations::rows::Rows;
+use std::io;
+use std::io::Read;
+use std::rt::Files;
 
 #[derive(Clone, Copy)]
 enum List {
@@ -20,13 +23,13 @@ enum List {
 }
 
 // A system of n unknowns is the list's next, and it is solved where the list has an answer, which is then the same.
-fn solved_right(fd: i32, s: &mut [f64], n: usize) -> bool
+fn solved_right(file: &mut impl Read, s: &mut [f64], n: usize) -> bool
     requires { n * n + n ≤ length s.old }
 {
-    list::read(fd, s, n * n + n);
+    list::read(file, s, n * n + n);
     let solved = solve_dense(s, n);
-    let present = word(fd);
-    let unknowns = list::holds(fd, s, n * n, n);
+    let present = word(file);
+    let unknowns = list::holds(file, s, n * n, n);
     if solved {
         present == 1 && unknowns
     } else {
@@ -34,13 +37,13 @@ fn solved_right(fd: i32, s: &mut [f64], n: usize) -> bool
     }
 }
 
-fn dense(fd: i32) -> bool {
-    let n = word(fd) as usize;
+fn dense(file: &mut impl Read) -> bool {
+    let n = word(file) as usize;
     if n > 6 {
         return false;
     }
     let mut s = [0.0; 42];
-    solved_right(fd, &mut s, n)
+    solved_right(file, &mut s, n)
 }
 
 fn largest_lent(v: &[f64], n: usize) -> f64
@@ -64,10 +67,10 @@ fn largest_by_value(v: [f64; 7], n: usize) -> f64 {
 }
 
 // The first n of seven numbers, and their largest magnitude.
-fn largest(fd: i32, by_value: bool) -> bool {
-    let n = word(fd) as usize;
+fn largest(file: &mut impl Read, by_value: bool) -> bool {
+    let n = word(file) as usize;
     let mut v = [0.0; 7];
-    list::read(fd, &mut v, 7);
+    list::read(file, &mut v, 7);
     if n > 7 {
         return false;
     }
@@ -76,29 +79,29 @@ fn largest(fd: i32, by_value: bool) -> bool {
     } else {
         largest_lent(&v, n)
     };
-    same(most, word(fd))
+    same(most, word(file))
 }
 
-fn record(fd: i32, k: List) -> bool {
+fn record(file: &mut impl Read, k: List) -> bool {
     match k {
-        List::Dense => dense(fd),
-        List::Largest => largest(fd, false),
-        List::LargestByValue => largest(fd, true),
+        List::Dense => dense(file),
+        List::Largest => largest(file, false),
+        List::LargestByValue => largest(file, true),
     }
 }
 
-fn replay(path: &[u8], k: List) {
-    let fd = list::open(path);
-    let n = list::count(fd);
+fn replay(rt: &(impl Files + Print + Eprint), path: &str, k: List) -> io::Result<()> {
+    let mut file = list::open(rt, path)?;
+    let n = list::count(&mut file);
     let mut wrong = 0u64;
     for i in 0..n {
-        wrong = counted(wrong, record(fd, k));
+        wrong = counted(wrong, record(&mut file, k));
     }
-    list::close(path, fd, n, wrong);
+    list::close(rt, path, file, n, wrong)
 }
 
-fn main() {
-    replay(b"solve_dense.bin", List::Dense);
-    replay(b"max_abs.bin", List::Largest);
-    replay(b"max_abs.bin", List::LargestByValue);
+fn main(rt: HostRuntime) -> io::Result<()> {
+    replay(&rt, "solve_dense.bin", List::Dense)?;
+    replay(&rt, "max_abs.bin", List::Largest)?;
+    replay(&rt, "max_abs.bin", List::LargestByValue)
 }

@@ -11,24 +11,27 @@ use eigen::eigen::sym_eigen;
 use lists::answers::{counted, same};
 use lists::list;
 use lists::list::word;
+use std::io;
+use std::io::Read;
+use std::rt::Files;
 
-fn same_column(fd: i32, v: &[f64], n: usize, i: usize) -> bool
+fn same_column(file: &mut impl Read, v: &[f64], n: usize, i: usize) -> bool
     requires n_in_bounds { n * n ≤ length v.now }
     requires i_lt_n { i < n }
 {
     let mut ok = true;
     for k in 0..n {
-        ok = same(v[k * n + i], word(fd)) && ok;
+        ok = same(v[k * n + i], word(file)) && ok;
     }
     ok
 }
 
-fn same_vectors(fd: i32, v: &[f64], n: usize) -> bool
+fn same_vectors(file: &mut impl Read, v: &[f64], n: usize) -> bool
     requires { n * n ≤ length v.now }
 {
     let mut ok = true;
     for i in 0..n {
-        ok = same_column(fd, v, n, i) && ok;
+        ok = same_column(file, v, n, i) && ok;
     }
     ok
 }
@@ -43,46 +46,46 @@ fn solve(m: &mut [f64], v: &mut [f64], vals: &mut [f64], n: usize)
 }
 
 // Whether the next record has the answer that is found here.
-fn record(fd: i32) -> bool {
-    let n = word(fd) as usize;
+fn record(file: &mut impl Read) -> bool {
+    let n = word(file) as usize;
     if n > 18 {
         return false;
     }
     let mut m = [0.0; 324];
     let mut v = [0.0; 324];
     let mut vals = [0.0; 18];
-    list::read(fd, &mut m, n * n);
+    list::read(file, &mut m, n * n);
     solve(&mut m, &mut v, &mut vals, n);
-    let values = list::holds(fd, &vals, 0, n);
-    let vectors = same_vectors(fd, &v, n);
+    let values = list::holds(file, &vals, 0, n);
+    let vectors = same_vectors(file, &v, n);
     values && vectors
 }
 
 // Which function a list is replayed on: 0 `sym_eigen` on lent memory, 1 by value, 2 `span_basis`.
-fn judge(fd: i32, which: u8) -> bool {
+fn judge(file: &mut impl Read, which: u8) -> bool {
     if which == 0 {
-        record(fd)
+        record(file)
     } else if which == 1 {
-        by_value::eigen_record(fd)
+        by_value::eigen_record(file)
     } else {
-        by_value::span_record(fd)
+        by_value::span_record(file)
     }
 }
 
-fn replay(path: &[u8], which: u8) {
-    let fd = list::open(path);
-    let n = list::count(fd);
+fn replay(rt: &(impl Files + Print + Eprint), path: &str, which: u8) -> io::Result<()> {
+    let mut file = list::open(rt, path)?;
+    let n = list::count(&mut file);
     let mut wrong = 0u64;
     for i in 0..n {
-        wrong = counted(wrong, judge(fd, which));
+        wrong = counted(wrong, judge(&mut file, which));
     }
-    list::close(path, fd, n, wrong);
+    list::close(rt, path, file, n, wrong)
 }
 
-fn main() {
-    replay(b"sym_eigen3.bin", 0);
-    replay(b"sym_eigen_any.bin", 0);
-    replay(b"sym_eigen3.bin", 1);
-    replay(b"sym_eigen6.bin", 1);
-    replay(b"span_basis.bin", 2);
+fn main(rt: HostRuntime) -> io::Result<()> {
+    replay(&rt, "sym_eigen3.bin", 0)?;
+    replay(&rt, "sym_eigen_any.bin", 0)?;
+    replay(&rt, "sym_eigen3.bin", 1)?;
+    replay(&rt, "sym_eigen6.bin", 1)?;
+    replay(&rt, "span_basis.bin", 2)
 }

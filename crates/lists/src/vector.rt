@@ -2,19 +2,20 @@
 
 use crate::answers::same;
 use crate::list::{double, word};
+use std::io::Read;
 use vectors::vec::Vec3;
 
-pub fn vector(fd: i32) -> Vec3 {
-    let x = double(fd);
-    let y = double(fd);
-    let z = double(fd);
+pub fn vector(file: &mut impl Read) -> Vec3 {
+    let x = double(file);
+    let y = double(file);
+    let z = double(file);
     Vec3 { x, y, z }
 }
 
 // Whether v is the list's next.
-pub fn same_vector(fd: i32, v: Vec3) -> bool {
-    let x = same(v.x, word(fd));
-    let y = same(v.y, word(fd));
-    let z = same(v.z, word(fd));
+pub fn same_vector(file: &mut impl Read, v: Vec3) -> bool {
+    let x = same(v.x, word(file));
+    let y = same(v.y, word(file));
+    let z = same(v.z, word(file));
     x & y & z
 }

@@ -9,24 +9,25 @@ use lists::answers::same;
 use lists::list::word;
 use numbers::bits;
 use records::record::u16_at;
+use std::io::Read;
 
 // Whether the first n doubles are the list's next, and the rest is as before.
-fn holds(fd: i32, d: &[f64; 256], before: &[f64; 256], n: usize) -> bool {
+fn holds(file: &mut impl Read, d: &[f64; 256], before: &[f64; 256], n: usize) -> bool {
     let mut right = true;
     for i in 0..256 {
-        let want = if i < n { word(fd) } else { bits(before[i]) };
+        let want = if i < n { word(file) } else { bits(before[i]) };
         right = same(d[i], want) & right;
     }
     right
 }
 
 // Whether the whole numbers are the list's next.
-fn values_right(fd: i32, v: Values) -> bool {
-    let unknowns = word(fd) == v.unknowns as u64;
-    let rows = word(fd) == v.rows as u64;
-    let done = word(fd) == v.done as u64;
-    let run = word(fd) == v.run as u64;
-    let converged = word(fd) == v.converged as u64;
+fn values_right(file: &mut impl Read, v: Values) -> bool {
+    let unknowns = word(file) == v.unknowns as u64;
+    let rows = word(file) == v.rows as u64;
+    let done = word(file) == v.done as u64;
+    let run = word(file) == v.run as u64;
+    let converged = word(file) == v.converged as u64;
     unknowns & rows & done & run & converged
 }
 
@@ -52,7 +53,7 @@ fn count(s: &[u8], o: usize, want: u64) -> usize
 
 // Whether the outputs begin with the list's next words, n of poses, n of frames and k of errors.
 fn outputs_right(
-    fd: i32,
+    file: &mut impl Read,
     n: usize,
     k: usize,
     poses: &[f64; 256],
@@ -60,31 +61,31 @@ fn outputs_right(
     errors: &[f64; 256],
 ) -> bool {
     let before = [BEFORE; 256];
-    let p = holds(fd, poses, &before, n);
-    let f = holds(fd, frames, &before, n);
-    let e = holds(fd, errors, &before, k);
+    let p = holds(file, poses, &before, n);
+    let f = holds(file, frames, &before, n);
+    let e = holds(file, errors, &before, k);
     p & f & e
 }
 
 // Whether the state's memory begins with the list's next n words; if the call refused, it and the whole numbers are also as before, w.
 fn state_right(
-    fd: i32,
+    file: &mut impl Read,
     n: usize,
     before: &[f64; 256],
     w: Values,
     v: Values,
     state: &[f64; 256],
 ) -> bool {
-    let right = holds(fd, state, before, n);
+    let right = holds(file, state, before, n);
     if v.number == 0 {
         return right;
     }
-    right & holds(fd, state, before, 0) & values_equal(v, w)
+    right & holds(file, state, before, 0) & values_equal(v, w)
 }
 
 // n doubles of the state are lent, and before and w are what it and the whole numbers were before the call.
 pub fn answer_right(
-    fd: i32,
+    file: &mut impl Read,
     s: &[u8],
     n: usize,
     before: &[f64; 256],
@@ -97,14 +98,14 @@ pub fn answer_right(
 ) -> bool
     requires { n ≤ 256 }
 {
-    let words = word(fd);
-    let want = word(fd);
+    let words = word(file);
+    let want = word(file);
     let m = count(s, 2, want);
     let k = count(s, 4, want);
     let whole = words == (6 + n + 24 * m + k) as u64;
     let number = v.number as u64 == want;
-    let values = values_right(fd, v);
-    let held = state_right(fd, n, before, w, v, state);
-    let outputs = outputs_right(fd, 12 * m, k, poses, frames, errors);
+    let values = values_right(file, v);
+    let held = state_right(file, n, before, w, v, state);
+    let outputs = outputs_right(file, 12 * m, k, poses, frames, errors);
     whole & number & values & held & outputs
 }

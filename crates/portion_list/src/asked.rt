@@ -5,6 +5,7 @@ ghost use Rattle.std.specs.Prelude.{◌≡◌, ◌≤◌};
 ghost use Rattle.portion_list.specs.Asked as spec;
 
 use lists::list::{double, read, word};
+use std::io::Read;
 
 // What stands in the doubles that are lent for an answer, before the call.
 pub const BEFORE: f64 = 2.5;
@@ -51,11 +52,11 @@ pub struct Running {
     pub doubles: [f64; 256],
 }
 
-fn next_chosen(fd: i32) -> Chosen {
-    let tolerance = double(fd);
-    let rounds = word(fd);
-    let limit = word(fd);
-    let weight = double(fd);
+fn next_chosen(file: &mut impl Read) -> Chosen {
+    let tolerance = double(file);
+    let rounds = word(file);
+    let limit = word(file);
+    let weight = double(file);
     Chosen {
         tolerance,
         rounds,
@@ -64,12 +65,12 @@ fn next_chosen(fd: i32) -> Chosen {
     }
 }
 
-fn next_lengths(fd: i32) -> Lengths {
-    let state = word(fd);
-    let scratch = word(fd);
-    let poses = word(fd);
-    let frames = word(fd);
-    let errors = word(fd);
+fn next_lengths(file: &mut impl Read) -> Lengths {
+    let state = word(file);
+    let scratch = word(file);
+    let poses = word(file);
+    let frames = word(file);
+    let errors = word(file);
     Lengths {
         state,
         scratch,
@@ -79,15 +80,15 @@ fn next_lengths(fd: i32) -> Lengths {
     }
 }
 
-pub fn next_call(fd: i32) -> Call {
-    let which = word(fd);
-    let drag = word(fd);
-    let chosen = next_chosen(fd);
-    let portion = word(fd);
-    let unknowns = word(fd);
-    let rows = word(fd);
-    let lengths = next_lengths(fd);
-    let given = word(fd);
+pub fn next_call(file: &mut impl Read) -> Call {
+    let which = word(file);
+    let drag = word(file);
+    let chosen = next_chosen(file);
+    let portion = word(file);
+    let unknowns = word(file);
+    let rows = word(file);
+    let lengths = next_lengths(file);
+    let given = word(file);
     Call {
         which,
         drag,
@@ -108,14 +109,14 @@ pub fn at_most(n: u64, most: usize) -> usize
 }
 
 // The running state that the list gives, or else the one that is left.
-pub fn next_running(fd: i32, given: u64, left: Running) -> Running {
+pub fn next_running(file: &mut impl Read, given: u64, left: Running) -> Running {
     if given == 0 {
         return left;
     }
-    let done = word(fd);
-    let run = word(fd);
+    let done = word(file);
+    let run = word(file);
     let mut doubles = [BEFORE; 256];
-    read(fd, &mut doubles, at_most(given, 256));
+    read(file, &mut doubles, at_most(given, 256));
     Running {
         done,
         run,

@@ -14,7 +14,10 @@ use lists::answers::counted;
 use lists::list;
 use lists::list::word;
 use solving::{Arguments, Values, arguments_of, solved, values_before};
+use std::io;
+use std::io::Read;
 use std::num::wrapping_add_u64;
+use std::rt::Files;
 
 #[derive(Clone, Copy)]
 struct Tally {
@@ -31,7 +34,7 @@ struct Outcome {
 
 // A call that fits: `doubles`, of which the list gave so many, and `w` are what the state's memory and the whole numbers are before it.
 fn answered(
-    fd: i32,
+    file: &mut impl Read,
     s: &[u8],
     which: u64,
     q: Arguments,
@@ -58,7 +61,7 @@ fn answered(
         &mut errors,
     );
     let n = at_most(l.state, 256);
-    let right = answer_right(fd, s, n, &doubles, w, v, &state, &poses, &frames, &errors);
+    let right = answer_right(file, s, n, &doubles, w, v, &state, &poses, &frames, &errors);
     let running = Running {
         done: v.done as u64,
         run: v.run as u64,
@@ -69,9 +72,9 @@ fn answered(
 }
 
 // A call of a schedule, from the running state that the call before left.
-fn call(fd: i32, s: &[u8], scratch: &mut [f64; 4096], left: Running) -> Outcome {
-    let c = next_call(fd);
-    let before = next_running(fd, c.given, left);
+fn call(file: &mut impl Read, s: &[u8], scratch: &mut [f64; 4096], left: Running) -> Outcome {
+    let c = next_call(file);
+    let before = next_running(file, c.given, left);
     if !fits(c, before.given, before.done, before.run) {
         return Outcome {
             right: false,
@@ -82,12 +85,12 @@ fn call(fd: i32, s: &[u8], scratch: &mut [f64; 4096], left: Running) -> Outcome 
     let w = values_before(c.unknowns, c.rows, before.done, before.run);
     let l = c.lengths;
     let doubles = before.doubles;
-    answered(fd, s, c.which, q, w, l, scratch, before.given, doubles)
+    answered(file, s, c.which, q, w, l, scratch, before.given, doubles)
 }
 
 // The calls of a schedule.
-fn schedule(fd: i32, s: &[u8], scratch: &mut [f64; 4096]) -> Tally {
-    let n = list::count(fd);
+fn schedule(file: &mut impl Read, s: &[u8], scratch: &mut [f64; 4096]) -> Tally {
+    let n = list::count(file);
     let mut running = Running {
         done: 0,
         run: 0,
@@ -95,35 +98,31 @@ fn schedule(fd: i32, s: &[u8], scratch: &mut [f64; 4096]) -> Tally {
         doubles: [BEFORE; 256],
     };
     let mut wrong = 0u64;
-    let mut i = 0u64;
-    while i < n {
-        let o = call(fd, s, scratch, running);
+    for _ in 0..n {
+        let o = call(file, s, scratch, running);
         running = o.running;
         wrong = counted(wrong, o.right);
-        i += 1;
     }
     Tally { answers: n, wrong }
 }
 
 // The schedules of a sheet.
-fn schedules(fd: i32, s: &[u8], scratch: &mut [f64; 4096]) -> Tally {
-    let n = list::count(fd);
+fn schedules(file: &mut impl Read, s: &[u8], scratch: &mut [f64; 4096]) -> Tally {
+    let n = list::count(file);
     let mut answers = 0u64;
     let mut wrong = 0u64;
-    let mut i = 0u64;
-    while i < n {
-        let t = schedule(fd, s, scratch);
+    for _ in 0..n {
+        let t = schedule(file, s, scratch);
         answers = wrapping_add_u64(answers, t.answers);
         wrong = wrapping_add_u64(wrong, t.wrong);
-        i += 1;
     }
     Tally { answers, wrong }
 }
 
 // A sheet and its schedules.
-fn record(fd: i32, scratch: &mut [f64; 4096]) -> Tally {
+fn record(file: &mut impl Read, scratch: &mut [f64; 4096]) -> Tally {
     let mut s = [0u8; 2000];
-    let bytes = word(fd);
+    let bytes = word(file);
     if bytes > 2000 {
         return Tally {
             answers: 0,
@@ -131,27 +130,29 @@ fn record(fd: i32, scratch: &mut [f64; 4096]) -> Tally {
         };
     }
     let n = bytes as usize;
-    list::filled(fd, &mut s, (n + 7) / 8 * 8);
-    schedules(fd, &s[0..n], scratch)
+    list::filled(file, &mut s, (n + 7) / 8 * 8);
+    schedules(file, &s[0..n], scratch)
 }
 
-fn replay(path: &[u8], scratch: &mut [f64; 4096]) {
-    let fd = list::open(path);
-    let n = list::count(fd);
+fn replay(
+    rt: &(impl Files + Print + Eprint),
+    path: &str,
+    scratch: &mut [f64; 4096],
+) -> io::Result<()> {
+    let mut file = list::open(rt, path)?;
+    let n = list::count(&mut file);
     let mut answers = 0u64;
     let mut wrong = 0u64;
-    let mut i = 0u64;
-    while i < n {
-        let t = record(fd, scratch);
+    for _ in 0..n {
+        let t = record(&mut file, scratch);
         answers = wrapping_add_u64(answers, t.answers);
         wrong = wrapping_add_u64(wrong, t.wrong);
-        i += 1;
     }
-    list::close(path, fd, answers, wrong);
+    list::close(rt, path, file, answers, wrong)
 }
 
 // One scratch serves all calls and is never cleared.
-fn main() {
+fn main(rt: HostRuntime) -> io::Result<()> {
     let mut scratch = [0.0 / 0.0; 4096];
-    replay(b"sheets_portions.bin", &mut scratch);
+    replay(&rt, "sheets_portions.bin", &mut scratch)
 }

@@ -10,6 +10,9 @@ use lists::list::{double, word};
 use records::record::rel_at;
 use relations::rows::{Rows, tangent_gap, wrap};
 use scene::scene::rel_rows;
+use std::io;
+use std::io::Read;
+use std::rt::Files;
 
 #[derive(Clone, Copy)]
 enum List {
@@ -19,67 +22,67 @@ enum List {
 }
 
 // The count, the seven rows and their largest magnitude are the list's next.
-fn right(fd: i32, r: Rows) -> bool {
+fn right(file: &mut impl Read, r: Rows) -> bool {
     let n = r.n as u64;
-    let count = word(fd) == n;
-    let a = same(r.r0, word(fd));
-    let b = same(r.r1, word(fd));
-    let c = same(r.r2, word(fd));
-    let d = same(r.r3, word(fd));
-    let e = same(r.r4, word(fd));
-    let f = same(r.r5, word(fd));
-    let g = same(r.r6, word(fd));
-    let most = same(r.max_abs(), word(fd));
+    let count = word(file) == n;
+    let a = same(r.r0, word(file));
+    let b = same(r.r1, word(file));
+    let c = same(r.r2, word(file));
+    let d = same(r.r3, word(file));
+    let e = same(r.r4, word(file));
+    let f = same(r.r5, word(file));
+    let g = same(r.r6, word(file));
+    let most = same(r.max_abs(), word(file));
     count & (a & (b & (c & (d & (e & (f & (g & most)))))))
 }
 
 // One relation: its 264 bytes, the poses of bodies 0, 1 and 2, the answers.
-fn relation(fd: i32) -> bool {
+fn relation(file: &mut impl Read) -> bool {
     let mut s = [0u8; 264];
-    io::read_full(fd, &mut s);
+    list::read_full(file, &mut s);
     let mut q = [0.0; 36];
-    list::read(fd, &mut q, 36);
+    list::read(file, &mut q, 36);
     let rel = rel_at(&s, 0);
-    right(fd, rel_rows(&q, 0, 3, rel))
+    right(file, rel_rows(&q, 0, 3, rel))
 }
 
 // One angle, and what it is wrapped to.
-fn wrapped(fd: i32) -> bool {
-    let a = double(fd);
-    same(wrap(a), word(fd))
+fn wrapped(file: &mut impl Read) -> bool {
+    let a = double(file);
+    same(wrap(a), word(file))
 }
 
 // Two radii, an offset, whether one stands inside the other and whether one is a plane; the gap.
-fn gap(fd: i32) -> bool {
-    let ra = double(fd);
-    let rb = double(fd);
-    let offset = double(fd);
-    let inside = word(fd) == 1;
-    let plane = word(fd) == 1;
-    same(tangent_gap(ra, rb, offset, inside, plane), word(fd))
+fn gap(file: &mut impl Read) -> bool {
+    let ra = double(file);
+    let rb = double(file);
+    let offset = double(file);
+    let inside = word(file) == 1;
+    let plane = word(file) == 1;
+    same(tangent_gap(ra, rb, offset, inside, plane), word(file))
 }
 
-fn record(fd: i32, k: List) -> bool {
+fn record(file: &mut impl Read, k: List) -> bool {
     match k {
-        List::Rows => relation(fd),
-        List::Wrapped => wrapped(fd),
-        List::Gaps => gap(fd),
+        List::Rows => relation(file),
+        List::Wrapped => wrapped(file),
+        List::Gaps => gap(file),
     }
 }
 
-fn replay(path: &[u8], k: List) {
-    let fd = list::open(path);
-    let n = list::count(fd);
+fn replay(rt: &(impl Files + Print + Eprint), path: &str, k: List) -> io::Result<()> {
+    let mut file = list::open(rt, path)?;
+    let n = list::count(&mut file);
     let mut wrong = 0u64;
     for i in 0..n {
-        wrong = counted(wrong, record(fd, k));
+        wrong = counted(wrong, record(&mut file, k));
     }
-    list::close(path, fd, n, wrong);
+    list::close(rt, path, file, n, wrong)
 }
 
-fn main() {
-    replay(b"rows.bin", List::Rows);
-    replay(b"wrap.bin", List::Wrapped);
-    replay(b"tangent_gap.bin", List::Gaps);
-    replay(b"gear_rows.bin", List::Rows);
+fn main(rt: HostRuntime) -> io::Result<()> {
+    replay(&rt, "rows.bin", List::Rows)?;
+    replay(&rt, "wrap.bin", List::Wrapped)?;
+    replay(&rt, "tangent_gap.bin", List::Gaps)?;
+    replay(&rt, "gear_rows.bin", List::Rows)
 }

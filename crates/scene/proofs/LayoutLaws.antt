@@ -2,9 +2,9 @@
 use mathlib.Core.Path.{◌≡◌, refl, sym, ap, subst, ◌∙◌}
 use mathlib.Core.Logic.{inl, inr}
 use mathlib.Core.Bool.{Bool, true, false, ◌||◌}
-use mathlib.Core.List.{List, [], ◌∷◌, ◌++◌}
-use mathlib.Core.Option.{Option, none, some}
-use Prim.Native.Nat.{ℕ, zero, suc, ◌+◌, ◌-◌, ◌*◌, ◌≤◌, ◌<◌}
+use mathlib.Core.List.{List, ◌∷◌, ◌++◌}
+use mathlib.Core.Option.{Option, none}
+use Prim.Native.Nat.{ℕ, suc, ◌+◌, ◌*◌, ◌≤◌, ◌<◌}
 use native.Mathlib.Omega.{arith}
 use native.Mathlib.Numerals.{add-one}
 use native.Mathlib.Nat.{not-suc-le-zero, le_of_suc-le-suc, eq-or-lt_of_le}
@@ -19,9 +19,8 @@ use Rattle.records.specs.Record.{body_at, rel_at}
 use Rattle.scene.specs.Scene.{scene_in}
 use Rattle.judging.specs.Count.{row_count}
 use Rattle.judging.proofs.CountLaws.{residual_length}
-use Rattle.scene.specs.Solve.{names, named, moves, layout_from, layout, unknowns_in, rows_at, all_rows}
-use Rattle.scene.specs.Scene.{first_unknown, scene_of, Laid, rels_in, place_body, LaidOut, SceneMade}
-use Rattle.scene.specs.declared.scene.Scene.{Scene as SceneStruct}
+use Rattle.scene.specs.Solve.{names, named, moves, layout_from, unknowns_in, rows_at, all_rows}
+use Rattle.scene.specs.Scene.{first_unknown, rels_in, place_body, LaidOut, SceneMade}
 use Rattle.scene.specs.declared.scene.Unknowns.{Unknowns as UnknownsStruct}
 use Rattle.least_squares.proofs.TableLaws.{length_list_of}
 use Rattle.scene.proofs.SceneLaws.{list_of_next, drop_whole, next_layout, length_layout}

@@ -2,6 +2,7 @@
 
 use lists::answers::same;
 use lists::list::word;
+use std::io::Read;
 
 // Before the call, and its bits.
 pub const BEFORE: f64 = 2.5;
@@ -9,10 +10,10 @@ pub const BEFORE: f64 = 2.5;
 pub const BEFORE_BITS: u64 = 0x4004_0000_0000_0000;
 
 // Whether the first n doubles are the list's next, and the rest is as before.
-pub fn holds(fd: i32, d: &[f64], n: usize) -> bool {
+pub fn holds(file: &mut impl Read, d: &[f64], n: usize) -> bool {
     let mut right = true;
     for i in 0..d.len() {
-        let want = if i < n { word(fd) } else { BEFORE_BITS };
+        let want = if i < n { word(file) } else { BEFORE_BITS };
         right = same(d[i], want) & right;
     }
     right

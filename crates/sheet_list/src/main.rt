@@ -15,7 +15,10 @@ use lists::list;
 use lists::list::word;
 use sheet::calls::{sheet_joint_reading, sheet_judge, sheet_snap};
 use solving::{Call, Chosen, dof_right, solve_right};
+use std::io;
+use std::io::Read;
 use std::num::wrapping_add_u64;
+use std::rt::Files;
 
 #[derive(Clone, Copy)]
 struct Tally {
@@ -36,7 +39,7 @@ fn judge_right(s: &[u8], relation: u16, want: u64) -> bool {
 }
 
 // On acceptance the two numbers are the list's next; on refusal they are as before.
-fn reading_right(fd: i32, s: &[u8], relation: u16, want: u64) -> bool {
+fn reading_right(file: &mut impl Read, s: &[u8], relation: u16, want: u64) -> bool {
     let mut offset = BEFORE;
     let mut angle = BEFORE;
     let number = sheet_joint_reading(s, relation, &mut offset, &mut angle) as u64;
@@ -46,31 +49,38 @@ fn reading_right(fd: i32, s: &[u8], relation: u16, want: u64) -> bool {
     if number != 0 {
         return same(offset, BEFORE_BITS) && same(angle, BEFORE_BITS);
     }
-    let a = word(fd);
-    let b = word(fd);
+    let a = word(file);
+    let b = word(file);
     same(offset, a) && same(angle, b)
 }
 
 // The first n doubles are lent. On acceptance 12 of them are the list's next; on refusal all are as before.
-fn snap_lent(fd: i32, s: &[u8], relation: u16, d: &mut [f64], n: usize, want: u64) -> bool
+fn snap_lent(
+    file: &mut impl Read,
+    s: &[u8],
+    relation: u16,
+    d: &mut [f64],
+    n: usize,
+    want: u64,
+) -> bool
     requires { n ≤ length d.old }
 {
     let number = sheet_snap(s, relation, &mut d[0..n]) as u64;
     if number != want {
         return false;
     }
-    holds(fd, d, if number == 0 { 12 } else { 0 })
+    holds(file, d, if number == 0 { 12 } else { 0 })
 }
 
-fn snap_right(fd: i32, s: &[u8], relation: u16, n: usize, want: u64) -> bool
+fn snap_right(file: &mut impl Read, s: &[u8], relation: u16, n: usize, want: u64) -> bool
     requires { n ≤ 40 }
 {
     let mut d = [BEFORE; 40];
-    snap_lent(fd, s, relation, &mut d, n, want)
+    snap_lent(file, s, relation, &mut d, n, want)
 }
 
 // Judging, the joint's reading or snapping.
-fn relation_right(fd: i32, s: &[u8], c: Call) -> bool {
+fn relation_right(file: &mut impl Read, s: &[u8], c: Call) -> bool {
     if c.number > 0xFFFF {
         return false;
     }
@@ -79,28 +89,28 @@ fn relation_right(fd: i32, s: &[u8], c: Call) -> bool {
         return judge_right(s, j, c.want);
     }
     if c.which == 1 {
-        return reading_right(fd, s, j, c.want);
+        return reading_right(file, s, j, c.want);
     }
     if c.first > 40 {
         return false;
     }
-    snap_right(fd, s, j, c.first as usize, c.want)
+    snap_right(file, s, j, c.first as usize, c.want)
 }
 
 // Whether a call gives the list's answer.
-fn right(fd: i32, s: &[u8], scratch: &mut [f64], c: Call) -> bool {
+fn right(file: &mut impl Read, s: &[u8], scratch: &mut [f64], c: Call) -> bool {
     if c.which == 3 || c.which == 5 || c.which == 6 {
-        return solve_right(fd, s, scratch, c);
+        return solve_right(file, s, scratch, c);
     }
     if c.which == 4 {
-        return dof_right(fd, s, scratch, c);
+        return dof_right(file, s, scratch, c);
     }
-    relation_right(fd, s, c)
+    relation_right(file, s, c)
 }
 
 // The next word as a whole number of 32 bits; no list has one over that.
-fn whole(fd: i32) -> u32 {
-    let n = word(fd);
+fn whole(file: &mut impl Read) -> u32 {
+    let n = word(file);
     if n > 0xFFFF_FFFF {
         return 0;
     }
@@ -108,7 +118,7 @@ fn whole(fd: i32) -> u32 {
 }
 
 // What a call chooses: call 5 has four words for it. Call 3 names 200 rounds, and else what a call takes that chooses nothing; the list does not spell it out.
-fn next_chosen(fd: i32, which: u64) -> Chosen {
+fn next_chosen(file: &mut impl Read, which: u64) -> Chosen {
     if which != 5 {
         return Chosen {
             tolerance: 1e-9,
@@ -117,10 +127,10 @@ fn next_chosen(fd: i32, which: u64) -> Chosen {
             weight: 1e4,
         };
     }
-    let tolerance = list::double(fd);
-    let rounds = whole(fd);
-    let limit = whole(fd);
-    let weight = list::double(fd);
+    let tolerance = list::double(file);
+    let rounds = whole(file);
+    let limit = whole(file);
+    let weight = list::double(file);
     Chosen {
         tolerance,
         rounds,
@@ -129,16 +139,16 @@ fn next_chosen(fd: i32, which: u64) -> Chosen {
     }
 }
 
-fn next_call(fd: i32) -> Call {
-    let which = word(fd);
-    let number = word(fd);
-    let scratch = word(fd);
-    let first = word(fd);
-    let second = word(fd);
-    let third = word(fd);
-    let chosen = next_chosen(fd, which);
-    word(fd);
-    let want = word(fd);
+fn next_call(file: &mut impl Read) -> Call {
+    let which = word(file);
+    let number = word(file);
+    let scratch = word(file);
+    let first = word(file);
+    let second = word(file);
+    let third = word(file);
+    let chosen = next_chosen(file, which);
+    word(file);
+    let want = word(file);
     Call {
         which,
         number,
@@ -152,22 +162,20 @@ fn next_call(fd: i32) -> Call {
 }
 
 // The calls of a sheet.
-fn calls(fd: i32, s: &[u8], scratch: &mut [f64]) -> Tally {
-    let n = list::count(fd);
+fn calls(file: &mut impl Read, s: &[u8], scratch: &mut [f64]) -> Tally {
+    let n = list::count(file);
     let mut wrong = 0u64;
-    let mut i = 0u64;
-    while i < n {
-        let c = next_call(fd);
-        wrong = counted(wrong, right(fd, s, scratch, c));
-        i += 1;
+    for _ in 0..n {
+        let c = next_call(file);
+        wrong = counted(wrong, right(file, s, scratch, c));
     }
     Tally { answers: n, wrong }
 }
 
 // A sheet of at most 64 bodies and 128 relations, and its calls.
-fn sheet_calls(fd: i32, scratch: &mut [f64]) -> Tally {
+fn sheet_calls(file: &mut impl Read, scratch: &mut [f64]) -> Tally {
     let mut s = [0u8; 42_520];
-    let bytes = word(fd);
+    let bytes = word(file);
     if bytes > 42_520 {
         return Tally {
             answers: 0,
@@ -175,8 +183,8 @@ fn sheet_calls(fd: i32, scratch: &mut [f64]) -> Tally {
         };
     }
     let n = bytes as usize;
-    list::filled(fd, &mut s, (n + 7) / 8 * 8);
-    calls(fd, &s[0..n], scratch)
+    list::filled(file, &mut s, (n + 7) / 8 * 8);
+    calls(file, &s[0..n], scratch)
 }
 
 fn judge_changed(s: &[u8; 424], want: u64) -> bool {
@@ -184,34 +192,32 @@ fn judge_changed(s: &[u8; 424], want: u64) -> bool {
 }
 
 // One word of a sheet is changed, and relation 0 judged.
-fn changed(fd: i32, sheet: [u8; 424]) -> bool {
+fn changed(file: &mut impl Read, sheet: [u8; 424]) -> bool {
     let mut s = sheet;
-    let place = word(fd);
+    let place = word(file);
     if place > 52 {
         return false;
     }
     let o = place as usize * 8;
     let e = o + 8;
-    io::read_full(fd, &mut s[o..e]);
-    let want = word(fd);
+    list::read_full(file, &mut s[o..e]);
+    let want = word(file);
     judge_changed(&s, want)
 }
 
-fn fields(fd: i32) -> Tally {
+fn fields(file: &mut impl Read) -> Tally {
     let mut s = [0u8; 424];
-    list::filled(fd, &mut s, 424);
-    let n = list::count(fd);
+    list::filled(file, &mut s, 424);
+    let n = list::count(file);
     let mut wrong = 0u64;
-    let mut i = 0u64;
-    while i < n {
-        wrong = counted(wrong, changed(fd, s));
-        i += 1;
+    for _ in 0..n {
+        wrong = counted(wrong, changed(file, s));
     }
     Tally { answers: n, wrong }
 }
 
 // The sheet of three bodies and the relation, which stands first in the list.
-fn relation_sheet(fd: i32) -> [u8; 696] {
+fn relation_sheet(file: &mut impl Read) -> [u8; 696] {
     let mut s = [0u8; 696];
     s[0] = 1;
     s[2] = 3;
@@ -221,18 +227,18 @@ fn relation_sheet(fd: i32) -> [u8; 696] {
     s[13] = 1;
     s[16] = 0xB8;
     s[17] = 2;
-    io::read_full(fd, &mut s[432..696]);
-    io::read_full(fd, &mut s[24..432]);
+    list::read_full(file, &mut s[432..696]);
+    list::read_full(file, &mut s[24..432]);
     s
 }
 
 // Judging, the joint's reading and snapping of one relation.
-fn relation(fd: i32) -> Tally {
-    let s = relation_sheet(fd);
-    let want = word(fd);
+fn relation(file: &mut impl Read) -> Tally {
+    let s = relation_sheet(file);
+    let want = word(file);
     let judged = judge_right(&s, 0, want);
-    let read = reading_right(fd, &s, 0, 0);
-    let snapped = snap_right(fd, &s, 0, 12, 0);
+    let read = reading_right(file, &s, 0, 0);
+    let snapped = snap_right(file, &s, 0, 12, 0);
     if judged & (read & snapped) {
         return Tally {
             answers: 3,
@@ -245,56 +251,68 @@ fn relation(fd: i32) -> Tally {
     }
 }
 
-fn record(fd: i32, k: List, scratch: &mut [f64]) -> Tally {
+fn record(file: &mut impl Read, k: List, scratch: &mut [f64]) -> Tally {
     match k {
-        List::Sheets => sheet_calls(fd, scratch),
-        List::Fields => fields(fd),
-        List::Relations => relation(fd),
+        List::Sheets => sheet_calls(file, scratch),
+        List::Fields => fields(file),
+        List::Relations => relation(file),
     }
 }
 
-fn replay(path: &[u8], k: List, scratch: &mut [f64]) {
-    let fd = list::open(path);
-    let n = list::count(fd);
+fn replay(
+    rt: &(impl Files + Print + Eprint),
+    path: &str,
+    k: List,
+    scratch: &mut [f64],
+) -> io::Result<()> {
+    let mut file = list::open(rt, path)?;
+    let n = list::count(&mut file);
     let mut answers = 0u64;
     let mut wrong = 0u64;
-    let mut i = 0u64;
-    while i < n {
-        let t = record(fd, k, scratch);
+    for _ in 0..n {
+        let t = record(&mut file, k, scratch);
         answers = wrapping_add_u64(answers, t.answers);
         wrong = wrapping_add_u64(wrong, t.wrong);
-        i += 1;
     }
-    list::close(path, fd, answers, wrong);
+    list::close(rt, path, file, answers, wrong)
 }
 
 // Refusals, each field of a sheet, and the calls on one relation.
-fn replay_refused(scratch: &mut [f64; 300_000]) {
-    replay(b"sheets_refused.bin", List::Sheets, scratch);
-    replay(b"sheets_fields.bin", List::Fields, scratch);
-    replay(b"relation_calls.bin", List::Relations, scratch);
+fn replay_refused(
+    rt: &(impl Files + Print + Eprint),
+    scratch: &mut [f64; 300_000],
+) -> io::Result<()> {
+    replay(rt, "sheets_refused.bin", List::Sheets, scratch)?;
+    replay(rt, "sheets_fields.bin", List::Fields, scratch)?;
+    replay(rt, "relation_calls.bin", List::Relations, scratch)
 }
 
-fn replay_solved(scratch: &mut [f64; 300_000]) {
-    replay(b"sheets_solved.bin", List::Sheets, scratch);
-    replay(b"sheets_limits.bin", List::Sheets, scratch);
-    replay(b"sheets_geared.bin", List::Sheets, scratch);
+fn replay_solved(
+    rt: &(impl Files + Print + Eprint),
+    scratch: &mut [f64; 300_000],
+) -> io::Result<()> {
+    replay(rt, "sheets_solved.bin", List::Sheets, scratch)?;
+    replay(rt, "sheets_limits.bin", List::Sheets, scratch)?;
+    replay(rt, "sheets_geared.bin", List::Sheets, scratch)
 }
 
 // Calls that choose their parameters, and calls that choose nothing.
-fn replay_chosen(scratch: &mut [f64; 300_000]) {
-    replay(b"sheets_parameters.bin", List::Sheets, scratch);
-    replay(b"sheets_bare.bin", List::Sheets, scratch);
+fn replay_chosen(
+    rt: &(impl Files + Print + Eprint),
+    scratch: &mut [f64; 300_000],
+) -> io::Result<()> {
+    replay(rt, "sheets_parameters.bin", List::Sheets, scratch)?;
+    replay(rt, "sheets_bare.bin", List::Sheets, scratch)
 }
 
 // One scratch serves all calls and is never cleared. It is as long as the lists ask; 800 rows would ask `solve` for 971,712 doubles, nearly all of a stack of 8 MB.
-fn replay_all(scratch: &mut [f64; 300_000]) {
-    replay_refused(scratch);
-    replay_solved(scratch);
-    replay_chosen(scratch);
+fn replay_all(rt: &(impl Files + Print + Eprint), scratch: &mut [f64; 300_000]) -> io::Result<()> {
+    replay_refused(rt, scratch)?;
+    replay_solved(rt, scratch)?;
+    replay_chosen(rt, scratch)
 }
 
-fn main() {
+fn main(rt: HostRuntime) -> io::Result<()> {
     let mut scratch = [0.0 / 0.0; 300_000];
-    replay_all(&mut scratch);
+    replay_all(&rt, &mut scratch)
 }

@@ -9,6 +9,7 @@ use lists::list::word;
 use records::record::u16_at;
 use sheet::freedoms::sheet_dof;
 use sheet::solving::{sheet_solve, sheet_solve_with};
+use std::io::Read;
 
 // What a call of `solve` chooses; call 6 chooses nothing, and it is not looked at.
 #[derive(Clone, Copy)]
@@ -49,7 +50,7 @@ fn count(s: &[u8], o: usize, number: u32) -> usize
 
 // Whether a number and the outputs are the list's answer to `solve`.
 fn outputs_right(
-    fd: i32,
+    file: &mut impl Read,
     s: &[u8],
     number: u32,
     want: u64,
@@ -61,12 +62,12 @@ fn outputs_right(
     if number as u64 != want {
         return false;
     }
-    let flag = if number == 0 { word(fd) } else { 77 };
+    let flag = if number == 0 { word(file) } else { 77 };
     let m = count(s, 2, number);
     let k = count(s, 4, number);
-    let p = holds(fd, poses, 12 * m);
-    let f = holds(fd, frames, 12 * m);
-    let e = holds(fd, errors, k);
+    let p = holds(file, poses, 12 * m);
+    let f = holds(file, frames, 12 * m);
+    let e = holds(file, errors, k);
     p & f & e & (converged as u64 == flag)
 }
 
@@ -136,7 +137,7 @@ fn solve_lent(
 
 // The same of outputs that stand as before a call, and whether what it leaves is the list's answer.
 fn solved_right(
-    fd: i32,
+    file: &mut impl Read,
     s: &[u8],
     which: u64,
     q: Chosen,
@@ -170,11 +171,11 @@ fn solved_right(
         &mut errors,
         &mut converged,
     );
-    outputs_right(fd, s, number, want, &poses, &frames, &errors, converged)
+    outputs_right(file, s, number, want, &poses, &frames, &errors, converged)
 }
 
 // As many doubles of scratch and of each output are lent as the call says.
-pub fn solve_right(fd: i32, s: &[u8], scratch: &mut [f64], c: Call) -> bool {
+pub fn solve_right(file: &mut impl Read, s: &[u8], scratch: &mut [f64], c: Call) -> bool {
     if c.number > 0xFFFF || c.scratch > scratch.len() as u64 {
         return false;
     }
@@ -183,7 +184,7 @@ pub fn solve_right(fd: i32, s: &[u8], scratch: &mut [f64], c: Call) -> bool {
     }
     let q = c.chosen;
     solved_right(
-        fd,
+        file,
         s,
         c.which,
         q,
@@ -198,13 +199,20 @@ pub fn solve_right(fd: i32, s: &[u8], scratch: &mut [f64], c: Call) -> bool {
 }
 
 // Whether a number and the outputs are the list's answer to `dof`.
-fn freedoms_right(fd: i32, s: &[u8], number: u32, want: u64, freedoms: &[f64], free: u32) -> bool {
+fn freedoms_right(
+    file: &mut impl Read,
+    s: &[u8],
+    number: u32,
+    want: u64,
+    freedoms: &[f64],
+    free: u32,
+) -> bool {
     if number as u64 != want {
         return false;
     }
-    let total = if number == 0 { word(fd) } else { 777 };
+    let total = if number == 0 { word(file) } else { 777 };
     let m = count(s, 2, number);
-    holds(fd, freedoms, 29 * m) & (free as u64 == total)
+    holds(file, freedoms, 29 * m) & (free as u64 == total)
 }
 
 // The first n doubles of scratch and f of freedoms are lent.
@@ -222,20 +230,34 @@ fn dof_lent(
     sheet_dof(s, &mut scratch[0..n], &mut freedoms[0..f], free)
 }
 
-fn freed_right(fd: i32, s: &[u8], n: usize, f: usize, scratch: &mut [f64], want: u64) -> bool
+fn freed_right(
+    file: &mut impl Read,
+    s: &[u8],
+    n: usize,
+    f: usize,
+    scratch: &mut [f64],
+    want: u64,
+) -> bool
     requires n_in_bounds { n ≤ length scratch.old }
     requires f_bound { f ≤ 2048 }
 {
     let mut freedoms = [BEFORE; 2048];
     let mut free = 777u32;
     let number = dof_lent(s, n, f, scratch, &mut freedoms, &mut free);
-    freedoms_right(fd, s, number, want, &freedoms, free)
+    freedoms_right(file, s, number, want, &freedoms, free)
 }
 
 // As many doubles of scratch and of freedoms are lent as the call says.
-pub fn dof_right(fd: i32, s: &[u8], scratch: &mut [f64], c: Call) -> bool {
+pub fn dof_right(file: &mut impl Read, s: &[u8], scratch: &mut [f64], c: Call) -> bool {
     if c.scratch > scratch.len() as u64 || c.first > 2048 {
         return false;
     }
-    freed_right(fd, s, c.scratch as usize, c.first as usize, scratch, c.want)
+    freed_right(
+        file,
+        s,
+        c.scratch as usize,
+        c.first as usize,
+        scratch,
+        c.want,
+    )
 }

@@ -10,7 +10,7 @@ use Rattle.vectors.specs.Vec.{Vec, vec, zero_v, add_v, sub_v, scale_v, neg_v, do
 use Rattle.vectors.specs.Space.{Frame}
 use Rattle.vectors.specs.Math.{Mat, mat, identity, apply, mul_m, transpose, exp, rotation_between, of_frame, frame_of}
 use Rattle.relations.specs.Geometry.{Geo, plane, line, point, circle, Pose, place, placed, direction_of, frame_or}
-use Rattle.relations.specs.Model.{End, Law, mate, flush, angle, insert, tangent, symmetry, joint, gear, Rel}
+use Rattle.relations.specs.Model.{Law, mate, flush, angle, insert, tangent, symmetry, joint, gear, Rel}
 use Rattle.relations.specs.Rows.{Pair, planes, lines, points, plane_point, line_point, plane_line, other, pair, mate_prim, perp, turn, plane_gap, JointAt, joint_at}
 use Rattle.snapping.specs.declared.snap.Motion.{Motion as MotionStruct}
 use Rattle.relations.specs.declared.model.JointKind.{JointKind}

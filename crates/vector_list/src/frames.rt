@@ -2,42 +2,43 @@
 
 use lists::list::word;
 use lists::vector::{same_vector, vector};
+use std::io::Read;
 use vectors::math::M3;
 use vectors::space::{Frame, NewFrame};
 use vectors::vec::Vec3;
 
-pub fn matrix(fd: i32) -> M3 {
-    let r0 = vector(fd);
-    let r1 = vector(fd);
-    let r2 = vector(fd);
+pub fn matrix(file: &mut impl Read) -> M3 {
+    let r0 = vector(file);
+    let r1 = vector(file);
+    let r2 = vector(file);
     M3 { r0, r1, r2 }
 }
 
-pub fn same_matrix(fd: i32, m: M3) -> bool {
+pub fn same_matrix(file: &mut impl Read, m: M3) -> bool {
     let r0 = m.r0;
     let r1 = m.r1;
     let r2 = m.r2;
-    same_vector(fd, r0) & same_vector(fd, r1) & same_vector(fd, r2)
+    same_vector(file, r0) & same_vector(file, r1) & same_vector(file, r2)
 }
 
-fn same_axes(fd: i32, origin: Vec3, x: Vec3, y: Vec3, z: Vec3) -> bool {
-    same_vector(fd, origin) & same_vector(fd, x) & same_vector(fd, y) & same_vector(fd, z)
+fn same_axes(file: &mut impl Read, origin: Vec3, x: Vec3, y: Vec3, z: Vec3) -> bool {
+    same_vector(file, origin) & same_vector(file, x) & same_vector(file, y) & same_vector(file, z)
 }
 
-fn same_made(fd: i32, f: Frame) -> bool {
+fn same_made(file: &mut impl Read, f: Frame) -> bool {
     let origin = f.origin;
     let x = f.x;
     let y = f.y;
     let z = f.z;
-    same_axes(fd, origin, x, y, z)
+    same_axes(file, origin, x, y, z)
 }
 
 // 1 and the frame, or 0 for none, which twelve words of 0 follow.
-pub fn same_frame(fd: i32, f: NewFrame) -> bool {
-    let present = word(fd);
+pub fn same_frame(file: &mut impl Read, f: NewFrame) -> bool {
+    let present = word(file);
     match f {
-        NewFrame::Made(f) => same_made(fd, f) & (present == 1),
-        NewFrame::Nothing => same_axes(fd, Vec3::ZERO, Vec3::ZERO, Vec3::ZERO, Vec3::ZERO)
+        NewFrame::Made(f) => same_made(file, f) & (present == 1),
+        NewFrame::Nothing => same_axes(file, Vec3::ZERO, Vec3::ZERO, Vec3::ZERO, Vec3::ZERO)
             & (present == 0),
     }
 }

@@ -9,6 +9,9 @@ use frames::{matrix, same_frame, same_matrix};
 use lists::answers::counted;
 use lists::list;
 use lists::vector::vector;
+use std::io;
+use std::io::Read;
+use std::rt::Files;
 use vectors::math::{M3, frame_of, rotation_between};
 use vectors::space::Frame;
 
@@ -22,69 +25,69 @@ enum List {
     FrameOf,
 }
 
-fn exp(fd: i32) -> bool {
-    let w = vector(fd);
-    same_matrix(fd, M3::exp(w))
+fn exp(file: &mut impl Read) -> bool {
+    let w = vector(file);
+    same_matrix(file, M3::exp(w))
 }
 
-fn mul(fd: i32) -> bool {
-    let a = matrix(fd);
-    let b = matrix(fd);
-    same_matrix(fd, a.mul(b))
+fn mul(file: &mut impl Read) -> bool {
+    let a = matrix(file);
+    let b = matrix(file);
+    same_matrix(file, a.mul(b))
 }
 
-fn between(fd: i32) -> bool {
-    let from = vector(fd);
-    let to = vector(fd);
-    same_matrix(fd, rotation_between(from, to))
+fn between(file: &mut impl Read) -> bool {
+    let from = vector(file);
+    let to = vector(file);
+    same_matrix(file, rotation_between(from, to))
 }
 
-fn new(fd: i32) -> bool {
-    let origin = vector(fd);
-    let z = vector(fd);
-    let x_hint = vector(fd);
-    same_frame(fd, Frame::new(origin, z, x_hint))
+fn new(file: &mut impl Read) -> bool {
+    let origin = vector(file);
+    let z = vector(file);
+    let x_hint = vector(file);
+    same_frame(file, Frame::new(origin, z, x_hint))
 }
 
-fn from_normal(fd: i32) -> bool {
-    let origin = vector(fd);
-    let z = vector(fd);
-    same_frame(fd, Frame::from_normal(origin, z))
+fn from_normal(file: &mut impl Read) -> bool {
+    let origin = vector(file);
+    let z = vector(file);
+    same_frame(file, Frame::from_normal(origin, z))
 }
 
-fn of(fd: i32) -> bool {
-    let m = matrix(fd);
-    let origin = vector(fd);
-    same_frame(fd, frame_of(m, origin))
+fn of(file: &mut impl Read) -> bool {
+    let m = matrix(file);
+    let origin = vector(file);
+    same_frame(file, frame_of(m, origin))
 }
 
 // Whether the next record has the answer that is found here.
-fn record(fd: i32, k: List) -> bool {
+fn record(file: &mut impl Read, k: List) -> bool {
     match k {
-        List::Exp => exp(fd),
-        List::Mul => mul(fd),
-        List::RotationBetween => between(fd),
-        List::New => new(fd),
-        List::FromNormal => from_normal(fd),
-        List::FrameOf => of(fd),
+        List::Exp => exp(file),
+        List::Mul => mul(file),
+        List::RotationBetween => between(file),
+        List::New => new(file),
+        List::FromNormal => from_normal(file),
+        List::FrameOf => of(file),
     }
 }
 
-fn replay(path: &[u8], k: List) {
-    let fd = list::open(path);
-    let n = list::count(fd);
+fn replay(rt: &(impl Files + Print + Eprint), path: &str, k: List) -> io::Result<()> {
+    let mut file = list::open(rt, path)?;
+    let n = list::count(&mut file);
     let mut wrong = 0u64;
     for i in 0..n {
-        wrong = counted(wrong, record(fd, k));
+        wrong = counted(wrong, record(&mut file, k));
     }
-    list::close(path, fd, n, wrong);
+    list::close(rt, path, file, n, wrong)
 }
 
-fn main() {
-    replay(b"exp.bin", List::Exp);
-    replay(b"m3_mul.bin", List::Mul);
-    replay(b"rotation_between.bin", List::RotationBetween);
-    replay(b"frame_new.bin", List::New);
-    replay(b"from_normal.bin", List::FromNormal);
-    replay(b"frame_of.bin", List::FrameOf);
+fn main(rt: HostRuntime) -> io::Result<()> {
+    replay(&rt, "exp.bin", List::Exp)?;
+    replay(&rt, "m3_mul.bin", List::Mul)?;
+    replay(&rt, "rotation_between.bin", List::RotationBetween)?;
+    replay(&rt, "frame_new.bin", List::New)?;
+    replay(&rt, "from_normal.bin", List::FromNormal)?;
+    replay(&rt, "frame_of.bin", List::FrameOf)
 }

@@ -13,6 +13,9 @@ use lists::answers::counted;
 use lists::list;
 use lists::list::word;
 use sheet::saving::sheet_write;
+use std::io;
+use std::io::Read;
+use std::rt::Files;
 use structs::saved_again;
 
 // What stands in the memory for a sheet before a call.
@@ -29,13 +32,13 @@ struct Lent {
     room: u64,
 }
 
-fn next(fd: i32) -> Lent {
-    let m = word(fd);
-    let k = word(fd);
-    let bytes = word(fd);
-    let words = word(fd);
-    let numbers = word(fd);
-    let room = word(fd);
+fn next(file: &mut impl Read) -> Lent {
+    let m = word(file);
+    let k = word(file);
+    let bytes = word(file);
+    let words = word(file);
+    let numbers = word(file);
+    let room = word(file);
     Lent {
         m,
         k,
@@ -47,9 +50,9 @@ fn next(fd: i32) -> Lent {
 }
 
 // The list's word that holds the lent word i lowest: the next of the list for each fourth, else what is left of the last.
-fn word_of(fd: i32, i: usize, rest: u64) -> u64 {
+fn word_of(file: &mut impl Read, i: usize, rest: u64) -> u64 {
     if i % 4 == 0 {
-        word(fd)
+        word(file)
     } else {
         rest / 0x1_0000
     }
@@ -60,12 +63,12 @@ fn low(n: u64) -> u16 {
 }
 
 // Reads the first k words of s; the list has four in a word.
-fn read_words(fd: i32, s: &mut [u16], k: usize)
+fn read_words(file: &mut impl Read, s: &mut [u16], k: usize)
     requires { k ≤ length s.old }
 {
     let mut rest = 0u64;
     for i in 0..k {
-        rest = word_of(fd, i, rest);
+        rest = word_of(file, i, rest);
         s[i] = low(rest);
     }
 }
@@ -105,11 +108,11 @@ fn given(number: u32, m: u64, k: u64) -> usize
 }
 
 // Whether the memory begins with the n bytes that are the list's next, and is as before from there on.
-fn holds(fd: i32, sheet: &[u8; 43_000], n: usize) -> bool
+fn holds(file: &mut impl Read, sheet: &[u8; 43_000], n: usize) -> bool
     requires { n ≤ 42520 }
 {
     let mut want = [BEFORE; 43_000];
-    let whole = list::filled(fd, &mut want, n);
+    let whole = list::filled(file, &mut want, n);
     all_equal(sheet, &want) & whole
 }
 
@@ -130,13 +133,13 @@ fn saved_right(sheet: &[u8; 43_000], m: u64, k: u64) -> bool {
 }
 
 // Whether a number and the memory for the sheet are the list's answer. A sheet that was written is also read into structs and saved again.
-fn answer_right(fd: i32, number: u32, m: u64, k: u64, sheet: &[u8; 43_000]) -> bool {
-    let want = word(fd);
+fn answer_right(file: &mut impl Read, number: u32, m: u64, k: u64, sheet: &[u8; 43_000]) -> bool {
+    let want = word(file);
     if number as u64 != want {
         return false;
     }
     let n = given(number, m, k);
-    let whole = holds(fd, sheet, n);
+    let whole = holds(file, sheet, n);
     if number != 0 {
         return whole;
     }
@@ -144,68 +147,73 @@ fn answer_right(fd: i32, number: u32, m: u64, k: u64, sheet: &[u8; 43_000]) -> b
 }
 
 // The scene is written to as much memory as the list says.
-fn written_right(fd: i32, c: Lent, bytes: &[u8], words: &[u16], numbers: &[f64]) -> bool {
+fn written_right(
+    file: &mut impl Read,
+    c: Lent,
+    bytes: &[u8],
+    words: &[u16],
+    numbers: &[f64],
+) -> bool {
     let mut sheet = [BEFORE; 43_000];
     if c.room > 43_000 {
         return false;
     }
     let n = c.room as usize;
     let number = sheet_write(low(c.m), low(c.k), bytes, words, numbers, &mut sheet[0..n]);
-    answer_right(fd, number, c.m, c.k, &sheet)
+    answer_right(file, number, c.m, c.k, &sheet)
 }
 
 // The numbers are the list's next, then the answer.
-fn numbers_right(fd: i32, c: Lent, bytes: &[u8], words: &[u16]) -> bool {
+fn numbers_right(file: &mut impl Read, c: Lent, bytes: &[u8], words: &[u16]) -> bool {
     let mut numbers = [0.0; 5_000];
     if c.numbers > 5_000 {
         return false;
     }
     let n = c.numbers as usize;
-    list::read(fd, &mut numbers, n);
-    written_right(fd, c, bytes, words, &numbers[0..n])
+    list::read(file, &mut numbers, n);
+    written_right(file, c, bytes, words, &numbers[0..n])
 }
 
 // The words are the list's next, then the numbers.
-fn words_right(fd: i32, c: Lent, bytes: &[u8]) -> bool {
+fn words_right(file: &mut impl Read, c: Lent, bytes: &[u8]) -> bool {
     let mut words = [0u16; 700];
     if c.words > 700 {
         return false;
     }
     let n = c.words as usize;
-    read_words(fd, &mut words, n);
-    numbers_right(fd, c, bytes, &words[0..n])
+    read_words(file, &mut words, n);
+    numbers_right(file, c, bytes, &words[0..n])
 }
 
 // A scene, its bytes first, and whether writing it gives the list's answer.
-fn scene_right(fd: i32) -> bool {
-    let c = next(fd);
+fn scene_right(file: &mut impl Read) -> bool {
+    let c = next(file);
     let mut bytes = [0u8; 1_400];
     if c.bytes > 1_400 {
         return false;
     }
     let n = c.bytes as usize;
-    list::filled(fd, &mut bytes, (n + 7) / 8 * 8);
-    words_right(fd, c, &bytes[0..n])
+    list::filled(file, &mut bytes, (n + 7) / 8 * 8);
+    words_right(file, c, &bytes[0..n])
 }
 
-fn replay(path: &[u8]) {
-    let fd = list::open(path);
-    let n = list::count(fd);
+fn replay(rt: &(impl Files + Print + Eprint), path: &str) -> io::Result<()> {
+    let mut file = list::open(rt, path)?;
+    let n = list::count(&mut file);
     let mut wrong = 0u64;
     for i in 0..n {
-        wrong = counted(wrong, scene_right(fd));
+        wrong = counted(wrong, scene_right(&mut file));
     }
-    list::close(path, fd, n, wrong);
+    list::close(rt, path, file, n, wrong)
 }
 
 // The scenes whose number is known.
-fn known() {
-    io::write_all(1, b"known scenes answers 27 wrong ");
-    io::print_decimal(1, cases::wrong());
-    io::write_all(1, b"\n");
+fn known(rt: &impl Print) -> io::Result<()> {
+    let wrong = cases::wrong();
+    println!(rt; "known scenes answers 27 wrong {wrong}")
 }
 
-fn main() {
-    replay(b"scenes_written.bin");
-    known();
+fn main(rt: HostRuntime) -> io::Result<()> {
+    replay(&rt, "scenes_written.bin")?;
+    known(&rt)
 }

@@ -1,7 +1,6 @@
 -- `records::record::body_at` meets its contract: the definition unfolds to a record whose frame, centre and size are what the calls promise at their places, and whose
 -- flag is the same comparison of the first byte. Assumes nothing.
 use Rattle.records.specs.Record.{body_at}
-use borrow.Author.Rules.{rules}
 use Rattle.records.proofs.record.body_at.Goals as goal
 
 pub returns : goal.returns

@@ -3,7 +3,6 @@
 use lib.Ieee.{of_bits}
 use lib.Ieee.{div}
 use Rattle.records.proofs.RecordLaws.{no_nan_bits, nan_bits_lem}
-use borrow.Author.Rules.{rules}
 use Rattle.records.proofs.record.double_of.Goals as goal
 
 pub float_from_bits-result : goal.float_from_bits-result

@@ -1,7 +1,6 @@
 -- `records::record::end_at` meets its contract: the definition unfolds to a record of four fields. What the calls promise of the bytes is put into what `body_ref` and
 -- `prim_of` promise; the radius is a call's promise, the flag the same comparison of a byte. Assumes nothing.
 use Rattle.records.specs.Record.{end_at}
-use borrow.Author.Rules.{rules}
 use Rattle.records.proofs.record.end_at.Goals as goal
 
 pub returns : goal.returns

@@ -1,7 +1,6 @@
 -- `records::record::first_u64` meets its contract: both halves are below 2 ^ 32, so the word has room for them, and the sum of the halves is that of the eight bytes.
 -- Assumes nothing.
 use native.Mathlib.Omega.{arith}
-use borrow.Author.Rules.{rules}
 use Rattle.records.proofs.record.first_u64.Goals as goal
 
 pub overflow_mul-result : goal.overflow_mul-result

@@ -7,7 +7,6 @@ use Rattle.records.specs.Numbers.{by_number}
 use Rattle.records.specs.Record.{law_by, byte_at}
 use native.Mathlib.Omega.{arith}
 use Rattle.records.proofs.RecordLaws.{last_law}
-use borrow.Author.Rules.{rules}
 use Rattle.records.proofs.record.law_at.Goals as goal
 
 from_zero : (n : ℕ) → 0 ≤ n

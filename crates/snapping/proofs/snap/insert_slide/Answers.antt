@@ -1,7 +1,6 @@
 -- `snapping::snap::insert_slide` slides as the definition does: an arm tells b inside one that tells a, so that the definition computes, and for two circles
 -- the call promises the way. Assumes nothing.
 use Rattle.snapping.specs.Snap.{insert_slide}
-use borrow.Author.Rules.{rules}
 use Rattle.relations.proofs.Values.{vec_is}
 use Rattle.snapping.proofs.snap.insert_slide.Goals as goal
 

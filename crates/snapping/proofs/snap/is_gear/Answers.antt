@@ -1,6 +1,5 @@
 -- `snapping::snap::is_gear` meets its contract: each arm tells the law, and there `is_gear` computes to the arm's answer. Assumes nothing.
 use Rattle.snapping.specs.Snap.{is_gear}
-use borrow.Author.Rules.{rules}
 use Rattle.snapping.proofs.snap.is_gear.Goals as goal
 
 pub returns-in-Mate : goal.returns-in-Mate

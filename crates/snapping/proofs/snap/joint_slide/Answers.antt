@@ -1,6 +1,5 @@
 -- `snapping::snap::joint_slide` is the table `joint_slide`: an arm tells the kind, so that the table computes, and the calls promise the way. Assumes nothing.
 use Rattle.snapping.specs.Snap.{joint_slide}
-use borrow.Author.Rules.{rules}
 use Rattle.relations.proofs.Values.{vec_is}
 use Rattle.snapping.proofs.snap.joint_slide.Goals as goal
 

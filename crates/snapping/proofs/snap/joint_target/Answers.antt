@@ -1,7 +1,6 @@
 -- `snapping::snap::joint_target` meets its contract: an arm tells the kind, so that the definition computes: to the direction that `facing` promises, and for a ball to
 -- none. Assumes nothing.
 use Rattle.snapping.specs.Snap.{joint_target}
-use borrow.Author.Rules.{rules}
 use Rattle.relations.proofs.Values.{vec_is}
 use Rattle.snapping.proofs.snap.joint_target.Goals as goal
 

@@ -1,7 +1,6 @@
 -- `snapping::snap::joint_turn` meets its contract: an arm tells the kind, so that the definition computes: for rigid and slider to the turning that `turn_to_angle`
 -- promises, for any other kind to r. Assumes nothing.
 use Rattle.snapping.specs.Snap.{joint_turn}
-use borrow.Author.Rules.{rules}
 use Rattle.relations.proofs.Values.{mat_is}
 use Rattle.snapping.proofs.snap.joint_turn.Goals as goal
 

@@ -1,7 +1,6 @@
 -- `snapping::snap::mate_slide` slides as the definition does: an arm tells b inside one that tells a, so that the definition computes, and the calls promise
 -- the way. It tells a plane before a point from a point before a plane, since b is what slides. Assumes nothing.
 use Rattle.snapping.specs.Snap.{mate_slide}
-use borrow.Author.Rules.{rules}
 use Rattle.relations.proofs.Values.{vec_is}
 use Rattle.snapping.proofs.snap.mate_slide.Goals as goal
 

@@ -1,7 +1,6 @@
 -- `snapping::snap::mate_target` is the table `mate_target`: each arm tells the pair, so that the table computes, and for two planes or two lines the call
 -- promises the direction. Assumes nothing.
 use Rattle.snapping.specs.Snap.{mate_target}
-use borrow.Author.Rules.{rules}
 use Rattle.relations.proofs.Values.{vec_is}
 use Rattle.snapping.proofs.snap.mate_target.Goals as goal
 

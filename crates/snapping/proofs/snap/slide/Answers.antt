@@ -1,6 +1,5 @@
 -- `snapping::snap::slide` slides as the definition does: an arm tells the law, and the law's own function promises the way. Assumes nothing.
 use Rattle.snapping.specs.Snap.{slide}
-use borrow.Author.Rules.{rules}
 use Rattle.relations.proofs.Values.{vec_is}
 use Rattle.snapping.proofs.snap.slide.Goals as goal
 

@@ -1,7 +1,6 @@
 -- `snapping::snap::snap_dir` meets its contract: an arm tells the law, so that the definition computes: for a joint to its frame's Z, for any other law to what the
 -- primitive's `direction` promises. Assumes nothing.
 use Rattle.snapping.specs.Snap.{snap_dir}
-use borrow.Author.Rules.{rules}
 use Rattle.snapping.proofs.snap.snap_dir.Goals as goal
 
 pub returns-in-Mate : goal.returns-in-Mate

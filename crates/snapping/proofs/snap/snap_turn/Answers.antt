@@ -1,7 +1,6 @@
 -- `snapping::snap::snap_turn` meets its contract: an arm tells the law, so that the definition computes: for a joint to the turning that `joint_turn` promises, for any
 -- other law to r. Assumes nothing.
 use Rattle.snapping.specs.Snap.{snap_turn}
-use borrow.Author.Rules.{rules}
 use Rattle.relations.proofs.Values.{mat_is}
 use Rattle.snapping.proofs.snap.snap_turn.Goals as goal
 

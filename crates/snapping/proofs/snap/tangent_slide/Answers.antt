@@ -1,7 +1,6 @@
 -- `snapping::snap::tangent_slide` slides as the definition does: an arm tells b inside one that tells a, so that the definition computes, and the call promises
 -- the way along the plane's normal. Assumes nothing.
 use Rattle.snapping.specs.Snap.{tangent_slide}
-use borrow.Author.Rules.{rules}
 use Rattle.relations.proofs.Values.{vec_is}
 use Rattle.snapping.proofs.snap.tangent_slide.Goals as goal
 

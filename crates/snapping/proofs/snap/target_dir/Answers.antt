@@ -1,7 +1,6 @@
 -- `snapping::snap::target_dir` gives the direction of the definition: an arm tells the law, and where the law has a function of its own that function promises
 -- it. Assumes nothing.
 use Rattle.snapping.specs.Snap.{target_dir}
-use borrow.Author.Rules.{rules}
 use Rattle.relations.proofs.Values.{vec_is}
 use Rattle.snapping.proofs.snap.target_dir.Goals as goal
 

@@ -1,7 +1,6 @@
 -- `snapping::snap::turn_onto` is `turn_onto`: an arm tells both directions, or the one that is missing, and where there are two the calls promise the turning.
 -- Assumes nothing.
 use Rattle.snapping.specs.Snap.{turn_onto}
-use borrow.Author.Rules.{rules}
 use Rattle.relations.proofs.Values.{mat_is}
 use Rattle.snapping.proofs.snap.turn_onto.Goals as goal
 

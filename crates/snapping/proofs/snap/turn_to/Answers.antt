@@ -1,7 +1,6 @@
 -- `snapping::snap::turn_to` meets its contract: an arm tells the direction, or that there is none, so that the definition computes: to the rotation that
 -- `rotation_between` promises, or to the identity. Assumes nothing.
 use Rattle.snapping.specs.Snap.{turn_to}
-use borrow.Author.Rules.{rules}
 use Rattle.relations.proofs.Values.{mat_is}
 use Rattle.snapping.proofs.snap.turn_to.Goals as goal
 

@@ -1,10 +1,7 @@
 -- `eigen6::column` meets its contract. The loop's invariant: the first k entries stand, the others are 0. Assumes nothing.
 use native.Mathlib.Omega.{arith}
-use Prim.Native.Nat.{◌-◌, ◌≤◌}
 use mathlib.Core.Path.{◌≡◌, refl}
-use mathlib.Core.List.{◌++◌}
 use native.Mathlib.Numerals.{add-one}
-use lib.ListN.{replicate}
 use Rattle.numbers.specs.Double.{zero64}
 use Rattle.eigen.specs.Eigen.{column}
 use Rattle.spans.specs.Flat.{flat}
@@ -19,7 +16,7 @@ loop-k-init c = (omega arith, refl)
 pub loop-k-preserved : goal.loop-k-preserved
 unfolding column
 loop-k-preserved c =
-    let record { n = n; i = i; t1 = v } = c.args in
+    let record { n = n; i = i; v = v } = c.args in
     let k = c.loop-k.k in
     let x = flat_at n 6 (omega arith) v (good_grid 6 _ _ c.well_formed.0) n k i (omega arith) (omega arith) (omega arith) in (
       omega arith,

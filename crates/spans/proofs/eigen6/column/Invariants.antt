@@ -1,15 +1,11 @@
 -- `eigen6::column` meets its contract. The loop's invariant: the first k entries stand, the others are 0. Assumes nothing.
-use native.Mathlib.Omega.{arith}
 use Prim.Native.Nat.{◌-◌, ◌≤◌}
-use mathlib.Core.Path.{◌≡◌, refl}
+use mathlib.Core.Path.{◌≡◌}
 use mathlib.Core.List.{◌++◌}
-use native.Mathlib.Numerals.{add-one}
 use lib.ListN.{replicate}
 use Rattle.numbers.specs.Double.{zero64}
 use Rattle.eigen.specs.Eigen.{column}
 use Rattle.spans.specs.Flat.{flat}
-use Rattle.spans.proofs.Flat.{good_grid, flat_at, length_column}
-use Rattle.eigen.proofs.Sorting.{fill_step}
 use Rattle.spans.proofs.eigen6.column.Given as goal
 
 abbrev pub invariant-loop-k : goal.invariant-loop-k

@@ -1,10 +1,8 @@
 -- `eigen6::diag` meets its contract. The loop's invariant: s is the sum of the first i squares. Assumes nothing.
 use native.Mathlib.Omega.{arith}
-use Prim.Native.Nat.{◌-◌, ◌≤◌}
 use mathlib.Core.Path.{◌≡◌, refl}
 use native.Mathlib.Numerals.{add-one}
 use Rattle.eigen.specs.Eigen.{diag_to}
-use Rattle.spans.specs.Flat.{flat}
 use Rattle.spans.proofs.Flat.{good_grid, flat_at}
 use Rattle.spans.proofs.eigen6.diag.Goals as goal
 
@@ -17,7 +15,7 @@ unfolding diag_to
 loop-i-preserved c =
     let i = c.loop-i.i in
     let n = c.args.n in
-    let m = c.args.t1 in
+    let m = c.args.m in
     let x = flat_at n 6 (omega arith) m (good_grid 6 _ _ c.well_formed.0) n i i (omega arith) (omega arith) (omega arith) in
     (omega arith, rw (add-one, x, ← c.loop-i.invariant.1))
 

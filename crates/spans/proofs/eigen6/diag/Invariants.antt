@@ -1,11 +1,8 @@
 -- `eigen6::diag` meets its contract. The loop's invariant: s is the sum of the first i squares. Assumes nothing.
-use native.Mathlib.Omega.{arith}
 use Prim.Native.Nat.{◌-◌, ◌≤◌}
-use mathlib.Core.Path.{◌≡◌, refl}
-use native.Mathlib.Numerals.{add-one}
+use mathlib.Core.Path.{◌≡◌}
 use Rattle.eigen.specs.Eigen.{diag_to}
 use Rattle.spans.specs.Flat.{flat}
-use Rattle.spans.proofs.Flat.{good_grid, flat_at}
 use Rattle.spans.proofs.eigen6.diag.Given as goal
 
 abbrev pub invariant-loop-i : goal.invariant-loop-i

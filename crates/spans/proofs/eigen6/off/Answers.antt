@@ -1,10 +1,8 @@
 -- `eigen6::off` meets its contract. The loop's invariant: s is the sum of the first i rows. Assumes nothing.
 use native.Mathlib.Omega.{arith}
-use Prim.Native.Nat.{◌-◌, ◌≤◌}
 use mathlib.Core.Path.{◌≡◌, refl}
 use native.Mathlib.Numerals.{add-one}
 use Rattle.eigen.specs.Eigen.{off_to}
-use Rattle.spans.specs.Flat.{flat}
 use Rattle.spans.proofs.eigen6.off.Goals as goal
 
 pub loop-i-init : goal.loop-i-init

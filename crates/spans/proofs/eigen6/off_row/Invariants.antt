@@ -1,13 +1,8 @@
 -- `eigen6::off_row` meets its contract. The loop's invariant: t is the sum after the first j columns. Assumes nothing.
-use native.Mathlib.Omega.{arith}
 use Prim.Native.Nat.{◌-◌, ◌≤◌}
-use mathlib.Core.Path.{◌≡◌, refl}
-use native.Mathlib.Numerals.{add-one}
-use mathlib.Core.Logic.{⊎_elim}
-use borrow.Author.Tests.{eq-eqb, ne_eqb}
+use mathlib.Core.Path.{◌≡◌}
 use Rattle.eigen.specs.Eigen.{off_row}
 use Rattle.spans.specs.Flat.{flat}
-use Rattle.spans.proofs.Flat.{good_grid, flat_at}
 use Rattle.spans.proofs.eigen6.off_row.Given as goal
 
 abbrev pub invariant-loop-j : goal.invariant-loop-j

@@ -1,12 +1,8 @@
 -- `eigen6::pairs` meets its contract. The loop's invariant: the first i pairs stand, the others are 0. Assumes nothing.
 use native.Mathlib.Omega.{arith}
-use Prim.Native.Nat.{◌-◌, ◌≤◌}
 use mathlib.Core.Path.{◌≡◌, refl}
-use mathlib.Core.List.{◌++◌, map}
 use native.Mathlib.Numerals.{add-one}
-use lib.ListN.{replicate}
 use Rattle.eigen.specs.Eigen.{turned, pairs}
-use Rattle.spans.specs.Eigen6.{eigen6, none6}
 use Rattle.spans.specs.Flat.{flat}
 use Rattle.spans.proofs.Flat.{good_grid, flat_at}
 use Rattle.spans.proofs.Eigen6Laws.{pairs_step}
@@ -18,7 +14,7 @@ loop-i-init c = (omega arith, refl)
 
 pub loop-i-preserved : goal.loop-i-preserved
 loop-i-preserved c =
-    let record { n = n; v = v; t1 = m } = c.args in
+    let record { n = n; v = v; m = m } = c.args in
     let i = c.loop-i.i in
     let x = flat_at n 6 (omega arith) m (good_grid 6 _ _ c.well_formed.0) n i i (omega arith) (omega arith) (omega arith) in (
       omega arith,

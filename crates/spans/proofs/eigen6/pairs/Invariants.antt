@@ -1,15 +1,11 @@
 -- `eigen6::pairs` meets its contract. The loop's invariant: the first i pairs stand, the others are 0. Assumes nothing.
-use native.Mathlib.Omega.{arith}
 use Prim.Native.Nat.{◌-◌, ◌≤◌}
-use mathlib.Core.Path.{◌≡◌, refl}
+use mathlib.Core.Path.{◌≡◌}
 use mathlib.Core.List.{◌++◌, map}
-use native.Mathlib.Numerals.{add-one}
 use lib.ListN.{replicate}
 use Rattle.eigen.specs.Eigen.{turned, pairs}
 use Rattle.spans.specs.Eigen6.{eigen6, none6}
 use Rattle.spans.specs.Flat.{flat}
-use Rattle.spans.proofs.Flat.{good_grid, flat_at}
-use Rattle.spans.proofs.Eigen6Laws.{pairs_step}
 use Rattle.spans.proofs.eigen6.pairs.Given as goal
 
 abbrev pub invariant-loop-i : goal.invariant-loop-i

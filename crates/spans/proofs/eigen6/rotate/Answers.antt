@@ -1,6 +1,5 @@
 -- `eigen6::rotate` meets its contract: `turns` decides the definition's case as it decides the path. Where it is set, the promise of `turn_columns` is put into that of
 -- `turn_rows`; else the matrix is as it was. Assumes nothing.
-use borrow.Author.Rules.{rules}
 use Rattle.spans.proofs.eigen6.rotate.Goals as goal
 
 pub returns-then-r : goal.returns-then-r

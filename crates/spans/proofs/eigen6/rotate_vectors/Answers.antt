@@ -1,6 +1,5 @@
 -- `eigen6::rotate_vectors` meets its contract: `turns` decides the definition's case as it decides the path: what `turn_columns` promises, or the product as it was.
 -- Assumes nothing.
-use borrow.Author.Rules.{rules}
 use Rattle.spans.proofs.eigen6.rotate_vectors.Goals as goal
 
 pub returns-then-r : goal.returns-then-r

@@ -1,6 +1,5 @@
 -- `eigen6::rotation_at` meets its contract: what `abs` promises makes the test the definition's, so the path is its case: no turn, or the cosine and sine from what
 -- `tangent` promises put into what `cosine` promises. Assumes nothing.
-use borrow.Author.Rules.{rules}
 use Rattle.spans.proofs.eigen6.rotation_at.Goals as goal
 
 pub returns-then-abs : goal.returns-then-abs

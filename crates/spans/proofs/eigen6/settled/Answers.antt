@@ -1,5 +1,4 @@
 -- `eigen6::settled` meets its contract: the promises of `off` and `diag`, the latter put into that of `max`, make the comparison the definition's. Assumes nothing.
-use borrow.Author.Rules.{rules}
 use Rattle.eigen.specs.Eigen.{settled}
 use Rattle.spans.proofs.eigen6.settled.Goals as goal
 

@@ -1,12 +1,9 @@
 -- `eigen6::sink` meets its contract. The loop's invariant: what is left to do at j gives the same list. Assumes nothing.
-use native.Mathlib.Omega.{arith}
 use Prim.Native.Nat.{◌≤◌}
-use mathlib.Core.Path.{◌≡◌, refl, sym, ◌∙◌}
-use lib.ListN.{length, length-set}
-use borrow.Author.Tests.{not-true, not-false}
+use mathlib.Core.Path.{◌≡◌}
+use lib.ListN.{length}
 use Rattle.eigen.specs.Insertion.{sink}
 use Rattle.spans.specs.Eigen6.{lower6, past6}
-use Rattle.eigen.proofs.Sorting.{sink_on, sink_stop}
 use Rattle.spans.proofs.eigen6.sink.Given as goal
 
 abbrev pub invariant-loop-j : goal.invariant-loop-j

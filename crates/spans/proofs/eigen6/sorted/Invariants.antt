@@ -1,10 +1,8 @@
 -- `eigen6::sorted` meets its contract. The loop's invariant: the first i pairs are sorted, the others untouched. Assumes nothing.
-use native.Mathlib.Omega.{arith}
 use Prim.Native.Nat.{◌-◌, ◌≤◌}
-use mathlib.Core.Path.{◌≡◌, ◌∙◌}
-use lib.ListN.{length}
+use mathlib.Core.Path.{◌≡◌}
 use Rattle.spans.specs.Eigen6.{lower6, past6}
-use Rattle.eigen.proofs.Sorting.{sorted_to, sorted_start, sorted_step, sorted_end}
+use Rattle.eigen.proofs.Sorting.{sorted_to}
 use Rattle.spans.proofs.eigen6.sorted.Given as goal
 
 abbrev pub invariant-loop-i : goal.invariant-loop-i

@@ -1,23 +1,16 @@
 -- `eigen6::sym_eigen`: sweeps, rows and rotations as in the definition on lists, and the sort of the pairs that they leave. The loops' invariants: the row's first entries are cleared, the
 -- first rows are swept, and the sweeps left give what all would. Assumes nothing.
 use native.Mathlib.Omega.{arith}
-use Prim.Native.Nat.{◌+◌, ◌-◌, ◌≤◌}
+use Prim.Native.Nat.{◌-◌}
 use mathlib.Core.Path.{◌≡◌, refl, sym, ◌∙◌}
-use Rattle.eigen.specs.Eigen.{turned, sweep_row, sweep_to, sweeps}
+use Rattle.eigen.specs.Eigen.{turned, sweep_to, sweeps}
 use Rattle.spans.specs.Flat.{flat}
-use Rattle.spans.proofs.Flat.{Grid, good_grid}
+use Rattle.spans.proofs.Flat.{good_grid}
 use Rattle.spans.proofs.Eigen6Laws.{rotate_step, finished}
 use Rattle.eigen.proofs.SweepLaws.{row_start, row_step, sweep_step, sweeps_stop, sweeps_step, sweeps_end}
-use mathlib.Core.Logic.{⊎_elim}
+use Rattle.spans.specs.Eigen6.{unit6}
 use Rattle.spans.proofs.eigen6.sym_eigen.Goals as goal
-
-rotation_at_requires :
-    tie.Need-rotation-at-requires invariant-loop3 decreases-loop3 invariant-loop2 decreases-loop2 invariant-loop decreases-loop
-rotation_at_requires c κs = omega arith
-
-rotate_vectors_requires :
-    tie.Need-rotate-vectors-requires invariant-loop3 decreases-loop3 invariant-loop2 decreases-loop2 invariant-loop decreases-loop
-rotate_vectors_requires c κs = omega arith
+use Rattle.spans.proofs.eigen6.sym_eigen.Goals.{else-loop-sweep-test, then-loop-sweep-test+then-settled}
 
 pub loop-sweep-init : goal.loop-sweep-init
 loop-sweep-init c = (omega arith, good_grid 6 _ _ c.well_formed.0, refl)
@@ -36,7 +29,7 @@ loop-q-preserved c =
     let p = c.loop-p.p in
     let turn = rotate_step n p l.q l.m l.v _ _ _ (omega arith) l.invariant.2 (omega arith) (omega arith)
     c.rotation_at-r.ensures c.rotate-b.ensures c.rotate_vectors-w.ensures in
-    (omega arith, omega arith, good_grid 6 _ _ c.rotate-b.type-inv, row_step n p l.q _ _ _ l.invariant.0 l.invariant.3 turn)
+    (omega arith, omega arith, good_grid 6 _ _ c.rotate-b.type_inv, row_step n p l.q _ _ _ l.invariant.0 l.invariant.3 turn)
 
 pub loop-p-preserved : goal.loop-p-preserved
 loop-p-preserved c =
@@ -57,8 +50,8 @@ pub returns : goal.returns
 returns c =
     let a = c.args in
     let l = c.loop-sweep in
-    let swept = ⊎_elim
-    (λ w. sweeps_end a.n l.sweep _ _ w.left l.invariant.2)
-    (λ w. sym (sweeps_stop a.n (100 - l.sweep) _ (sym w.1.ensures ∙ w.2.taken)) ∙ l.invariant.2)
-    c.loop-sweep-test.branch in
+    let swept : turned (flat a.n l.m) (flat a.n l.v) ≡ sweeps a.n 100 (turned (flat a.n a.a) (flat a.n unit6)) = elim c.loop-sweep-test.branch [
+      | else-loop-sweep-test w ↦ sweeps_end a.n l.sweep _ _ w.loop-sweep-test.false l.invariant.2
+      | then-loop-sweep-test+then-settled w ↦ sym (sweeps_stop a.n (100 - l.sweep) _ (sym w.settled.ensures ∙ w.if-settled.true)) ∙ l.invariant.2
+    ] in
     finished a.n a.a _ _ _ (omega arith) swept c.pairs.ensures c.sorted.ensures

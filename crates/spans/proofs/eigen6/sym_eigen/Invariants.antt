@@ -1,14 +1,10 @@
 -- `eigen6::sym_eigen`: sweeps, rows and rotations as in the definition on lists, and the sort of the pairs that they leave. The loops' invariants: the row's first entries are cleared, the
 -- first rows are swept, and the sweeps left give what all would. Assumes nothing.
-use native.Mathlib.Omega.{arith}
 use Prim.Native.Nat.{◌+◌, ◌-◌, ◌≤◌}
-use mathlib.Core.Path.{◌≡◌, refl, sym, ◌∙◌}
+use mathlib.Core.Path.{◌≡◌}
 use Rattle.eigen.specs.Eigen.{turned, sweep_row, sweep_to, sweeps}
 use Rattle.spans.specs.Flat.{flat}
-use Rattle.spans.proofs.Flat.{Grid, good_grid}
-use Rattle.spans.proofs.Eigen6Laws.{rotate_step, finished}
-use Rattle.eigen.proofs.SweepLaws.{row_start, row_step, sweep_step, sweeps_stop, sweeps_step, sweeps_end}
-use mathlib.Core.Logic.{⊎_elim}
+use Rattle.spans.proofs.Flat.{Grid}
 use Rattle.spans.proofs.eigen6.sym_eigen.Given as goal
 
 abbrev pub invariant-loop-q : goal.invariant-loop-q

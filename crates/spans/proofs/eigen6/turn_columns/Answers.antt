@@ -1,11 +1,9 @@
 -- `eigen6::turn_columns` meets its contract. The loop's invariant: the first k pairs are turned. Assumes nothing.
 use native.Mathlib.Omega.{arith}
 use native.Mathlib.Numerals.{add-one}
-use Prim.Native.Nat.{◌-◌, ◌≤◌}
 use mathlib.Core.Path.{◌≡◌, refl}
 use Rattle.eigen.specs.Eigen.{turn_columns}
-use Rattle.spans.specs.Flat.{flat}
-use Rattle.spans.proofs.Flat.{Grid, good_grid, grid_put, flat_turn}
+use Rattle.spans.proofs.Flat.{good_grid, grid_put, flat_turn}
 use Rattle.spans.proofs.eigen6.turn_columns.Goals as goal
 
 pub loop-k-init : goal.loop-k-init

@@ -1,11 +1,6 @@
 -- `span::longest` meets its contract. The loop's invariant: m and the vectors left give what all do. Assumes nothing.
 use native.Mathlib.Omega.{arith}
-use Prim.Native.Nat.{◌≤◌, ◌-◌}
-use mathlib.Core.Path.{◌≡◌, refl, sym, ◌∙◌}
-use lib.ListN.{length, drop}
-use Rattle.numbers.specs.Double.{zero64}
-use Rattle.spans.specs.Span.{longest}
-use Rattle.spans.specs.Basis.{first}
+use mathlib.Core.Path.{refl, sym, ◌∙◌}
 use Rattle.spans.proofs.SpanLaws.{longest_step, longest_end}
 use Rattle.spans.proofs.span.longest.Goals as goal
 
@@ -16,11 +11,11 @@ pub loop-i-preserved : goal.loop-i-preserved
 loop-i-preserved c =
     let l = c.loop-i in
     let a = c.args in
-    let e = longest_step a.k a.t1 (omega arith) l.i l.m (omega arith) in
+    let e = longest_step a.k a.vs (omega arith) l.i l.m (omega arith) in
     (omega arith, l.invariant.1, rw (c.max-m.ensures, c.len.ensures) (sym e ∙ l.invariant.2))
 
 pub returns : goal.returns
 returns c =
     let l = c.loop-i in
     let a = c.args in
-    sym (longest_end a.k a.t1 (omega arith) l.i l.m (omega arith)) ∙ l.invariant.2
+    sym (longest_end a.k a.vs (omega arith) l.i l.m (omega arith)) ∙ l.invariant.2

@@ -1,12 +1,10 @@
 -- `span::longest` meets its contract. The loop's invariant: m and the vectors left give what all do. Assumes nothing.
-use native.Mathlib.Omega.{arith}
 use Prim.Native.Nat.{◌≤◌, ◌-◌}
-use mathlib.Core.Path.{◌≡◌, refl, sym, ◌∙◌}
+use mathlib.Core.Path.{◌≡◌}
 use lib.ListN.{length, drop}
 use Rattle.numbers.specs.Double.{zero64}
 use Rattle.spans.specs.Span.{longest}
 use Rattle.spans.specs.Basis.{first}
-use Rattle.spans.proofs.SpanLaws.{longest_step, longest_end}
 use Rattle.spans.proofs.span.longest.Given as goal
 
 abbrev pub invariant-loop-i : goal.invariant-loop-i

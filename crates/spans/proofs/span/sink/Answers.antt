@@ -1,9 +1,7 @@
 -- `span::sink` meets its contract. The loop's invariant: what is left to do at j gives the same list. Assumes nothing.
 use native.Mathlib.Omega.{arith}
-use Prim.Native.Nat.{◌≤◌}
 use mathlib.Core.Path.{◌≡◌, refl, sym, ◌∙◌}
-use lib.ListN.{length, length-set}
-use borrow.Author.Tests.{not-true, not-false}
+use lib.ListN.{length-set}
 use Rattle.eigen.specs.Insertion.{sink}
 use Rattle.spans.specs.Basis.{longer3, past3}
 use Rattle.eigen.proofs.Sorting.{sink_on, sink_stop}

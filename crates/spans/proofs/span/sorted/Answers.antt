@@ -1,10 +1,9 @@
 -- `span::sorted` meets its contract. The loop's invariant: the first i vectors are sorted, the others untouched. Assumes nothing.
 use native.Mathlib.Omega.{arith}
-use Prim.Native.Nat.{◌-◌, ◌≤◌}
 use mathlib.Core.Path.{◌≡◌, ◌∙◌}
 use lib.ListN.{length}
 use Rattle.spans.specs.Basis.{longer3, past3}
-use Rattle.eigen.proofs.Sorting.{sorted_to, sorted_start, sorted_step, sorted_end}
+use Rattle.eigen.proofs.Sorting.{sorted_start, sorted_step, sorted_end}
 use Rattle.spans.proofs.span.sorted.Goals as goal
 
 pub loop-i-init : goal.loop-i-init

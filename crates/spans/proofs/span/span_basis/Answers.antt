@@ -1,12 +1,11 @@
 -- `span::span_basis` meets its contract. The loop's invariant: `out` is the basis after the first i vectors of the sorted ones. Assumes nothing.
 use native.Mathlib.Omega.{arith}
-use Prim.Native.Nat.{◌-◌, ◌≤◌}
 use mathlib.Core.Path.{◌≡◌, refl, sym}
 use mathlib.Core.List.{[]}
 use lib.ListN.{length}
 use lib.Ieee.{binary64, mul}
 use Rattle.spans.specs.Span.{joined}
-use Rattle.spans.specs.Basis.{first, basis_of}
+use Rattle.spans.specs.Basis.{first}
 use Rattle.spans.proofs.SpanLaws.{whole_of, span_step, span_none, span_some}
 use Rattle.spans.proofs.span.span_basis.Goals as goal
 
@@ -15,7 +14,7 @@ returns-then-most c = sym (span_none (first c.args.k c.args.vs) c.args.rel c.lon
 
 pub loop-i-init : goal.loop-i-init
 unfolding joined
-loop-i-init c = (omega arith, c.sorted-rest.type-inv.1.0.1, refl)
+loop-i-init c = (omega arith, c.sorted-rest.type_inv.1.0.1, refl)
 
 pub join-b-requires : goal.join-b-requires
 join-b-requires c =

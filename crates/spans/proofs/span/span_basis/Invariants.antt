@@ -1,13 +1,10 @@
 -- `span::span_basis` meets its contract. The loop's invariant: `out` is the basis after the first i vectors of the sorted ones. Assumes nothing.
-use native.Mathlib.Omega.{arith}
 use Prim.Native.Nat.{◌-◌, ◌≤◌}
-use mathlib.Core.Path.{◌≡◌, refl, sym}
+use mathlib.Core.Path.{◌≡◌}
 use mathlib.Core.List.{[]}
 use lib.ListN.{length}
-use lib.Ieee.{binary64, mul}
 use Rattle.spans.specs.Span.{joined}
 use Rattle.spans.specs.Basis.{first, basis_of}
-use Rattle.spans.proofs.SpanLaws.{whole_of, span_step, span_none, span_some}
 use Rattle.spans.proofs.span.span_basis.Given as goal
 
 abbrev pub invariant-loop-i : goal.invariant-loop-i

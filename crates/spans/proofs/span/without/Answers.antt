@@ -1,16 +1,12 @@
 -- `span::without` meets its contract. The loop's invariant: u and the vectors left give what all do. Assumes nothing.
 use native.Mathlib.Omega.{arith}
-use Prim.Native.Nat.{◌≤◌, ◌-◌}
-use mathlib.Core.Path.{◌≡◌, refl, sym, ◌∙◌}
-use lib.ListN.{length, drop, length-map}
+use mathlib.Core.Path.{refl, sym, ◌∙◌}
 use Rattle.vectors.specs.Vec.{vec}
-use Rattle.spans.specs.Span.{without}
-use Rattle.spans.specs.Basis.{first}
 use Rattle.spans.proofs.SpanLaws.{without_step, without_end}
 use Rattle.spans.proofs.span.without.Goals as goal
 
 pub loop-i-init : goal.loop-i-init
-loop-i-init c = (omega arith, simp length-map at c.well_formed.1.0.1.1.1.0.1.0.1, refl)
+loop-i-init c = (omega arith, c.well_formed.1.0.1.1.1.0.1.0.1, refl)
 
 pub loop-i-preserved : goal.loop-i-preserved
 loop-i-preserved c =

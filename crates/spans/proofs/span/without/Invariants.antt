@@ -1,12 +1,10 @@
 -- `span::without` meets its contract. The loop's invariant: u and the vectors left give what all do. Assumes nothing.
-use native.Mathlib.Omega.{arith}
 use Prim.Native.Nat.{◌≤◌, ◌-◌}
-use mathlib.Core.Path.{◌≡◌, refl, sym, ◌∙◌}
-use lib.ListN.{length, drop, length-map}
+use mathlib.Core.Path.{◌≡◌}
+use lib.ListN.{length, drop}
 use Rattle.vectors.specs.Vec.{vec}
 use Rattle.spans.specs.Span.{without}
 use Rattle.spans.specs.Basis.{first}
-use Rattle.spans.proofs.SpanLaws.{without_step, without_end}
 use Rattle.spans.proofs.span.without.Given as goal
 
 abbrev pub invariant-loop-i : goal.invariant-loop-i

@@ -1,0 +1,18 @@
+-- `slopes::moved::put_slopes` meets its contract. The invariant: the first r slopes are written and no other place has changed. The measure is the slopes to come. Assumes nothing.
+use mathlib.Core.Path.{◌≡◌, sym}
+use Prim.Native.Nat.{◌-◌, ◌≤◌}
+use native.Mathlib.Omega.{arith}
+use lib.Ieee.{nan}
+use lib.ListN.{get_or}
+use lib.Seq.{get_or-take}
+use Rattle.relations.specs.Rows.{rows_of}
+use Rattle.least_squares.specs.Lm.{slope_of}
+use Rattle.slopes.specs.Moved.{Strided}
+use Rattle.slopes.proofs.MovedLaws.{strided_start, strided_step, strided_as}
+use Rattle.slopes.proofs.moved.put_slopes.Given as goal
+
+abbrev pub invariant-loop-r : goal.invariant-loop-r
+invariant-loop-r l = (l.r ≤ l.rows) × (l.rows ≤ 7) × Strided l.initial.s l.s l.o l.n l.r (λ q. slope_of (get_or l.a q nan) (get_or l.b q nan) l.h)
+
+abbrev pub decreases-loop-r : goal.decreases-loop-r
+decreases-loop-r l = l.rows - l.r
