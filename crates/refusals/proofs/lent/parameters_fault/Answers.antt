@@ -6,23 +6,6 @@ use Rattle.scene.specs.Scene.{parameters_of}
 use Rattle.scene.specs.Solve.{in_range}
 use Rattle.refusals.proofs.lent.parameters_fault.Goals as goal
 
--- every test but the last has passed: what is left of the range is the last
-last : (c : goal.After-from_to-2)
-    → let q = c.args.q in
-    in_range (parameters_of q) ≡ c.from_to-2.result
-unfolding in_range
-last c =
-    let near = c.from_to in
-    rw (
-      ← near.ensures,
-      c.if-not-from_to.false,
-      le-leb 1 _ c.if-q-lt1.false,
-      le-leb _ 1000 c.if-q-gt1000.false,
-      le-leb 1 _ c.if-q-lt1-2.false,
-      le-leb _ 800 c.if-q-gt800.false,
-      ← c.from_to-2.ensures,
-    )
-
 pub returns-then-not-from_to : goal.returns-then-not-from_to
 unfolding in_range
 returns-then-not-from_to c = let near = c.from_to in rw (← near.ensures, c.if-not-from_to.true)
@@ -52,7 +35,29 @@ returns-then-q-gt800 c =
     rw (← near.ensures, c.if-not-from_to.false, le-leb 1 _ c.if-q-lt1.false, le-leb _ 1000 c.if-q-gt1000.false, le-leb 1 _ c.if-q-lt1-2.false, lt-leb _ 800 c.if-q-gt800.true)
 
 pub returns-then-not-from_to-2 : goal.returns-then-not-from_to-2
-returns-then-not-from_to-2 c = rw (last c.before, c.if-not-from_to-2.true)
+unfolding in_range
+returns-then-not-from_to-2 c =
+    rw (
+      ← c.from_to.ensures,
+      c.if-not-from_to.false,
+      le-leb 1 _ c.if-q-lt1.false,
+      le-leb _ 1000 c.if-q-gt1000.false,
+      le-leb 1 _ c.if-q-lt1-2.false,
+      le-leb _ 800 c.if-q-gt800.false,
+      ← c.from_to-2.ensures,
+      c.if-not-from_to-2.true,
+    )
 
 pub returns : goal.returns
-returns c = rw (last c.before, c.if-not-from_to-2.false)
+unfolding in_range
+returns c =
+    rw (
+      ← c.from_to.ensures,
+      c.if-not-from_to.false,
+      le-leb 1 _ c.if-q-lt1.false,
+      le-leb _ 1000 c.if-q-gt1000.false,
+      le-leb 1 _ c.if-q-lt1-2.false,
+      le-leb _ 800 c.if-q-gt800.false,
+      ← c.from_to-2.ensures,
+      c.if-not-from_to-2.false,
+    )

@@ -1,7 +1,6 @@
 -- `slopes::anew_slopes::anew_body` meets its contract: a body without unknowns has no columns, and the six of any other stand from its first unknown on. Assumes nothing.
 use mathlib.Core.Path.{refl}
 use lib.ListN.{get_or}
-use borrow.Author.Rules.{rules}
 use Rattle.scene.proofs.SceneLaws.{laid_first}
 use Rattle.slopes.proofs.AnewLaws.{first_some}
 use Rattle.slopes.proofs.BodyLaws.{standing_some, body_some, body_none}

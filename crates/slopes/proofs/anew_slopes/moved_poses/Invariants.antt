@@ -1,12 +1,10 @@
 -- `slopes::anew_slopes::moved_poses` meets its contract. The invariant: the poses and the steps along the first e unknowns are made. The measure is the unknowns to come. Assumes
 -- nothing.
-use mathlib.Core.Path.{◌≡◌, refl, ◌∙◌}
+use mathlib.Core.Path.{◌≡◌}
 use Prim.Native.Nat.{◌-◌, ◌≤◌}
-use native.Mathlib.Omega.{arith}
-use lib.ListN.{length, length-set}
+use lib.ListN.{length}
 use Rattle.relations.specs.Model.{body_of}
 use Rattle.slopes.specs.AnewSlopes.{MovedPoses}
-use Rattle.slopes.proofs.BodyLaws.{moved_start, moved_step, moved_end}
 use Rattle.slopes.proofs.anew_slopes.moved_poses.Given as goal
 
 abbrev pub invariant-loop-e : goal.invariant-loop-e

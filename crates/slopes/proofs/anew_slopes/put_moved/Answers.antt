@@ -6,7 +6,6 @@ use mathlib.Core.Option.{some}
 use native.Mathlib.Omega.{arith}
 use lib.Ieee.{Float}
 use lib.Seq.{set-set}
-use borrow.Author.Rules.{rules}
 use Rattle.relations.specs.Model.{body_of}
 use Rattle.scene.specs.Solve.{pose_at}
 use Rattle.slopes.proofs.BodyLaws.{moved_along}

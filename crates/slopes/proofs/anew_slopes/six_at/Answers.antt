@@ -1,6 +1,5 @@
 -- `slopes::anew_slopes::six_at` meets its contract: six doubles read one after the other are the part (`six_part`). Assumes nothing.
 use native.Mathlib.Omega.{arith}
-use borrow.Author.Rules.{rules}
 use Rattle.slopes.proofs.BodyLaws.{six_part}
 use Rattle.slopes.proofs.anew_slopes.six_at.Goals as goal
 

@@ -1,11 +1,10 @@
 -- `slopes::anew_slopes::slopes` meets its contract. The invariant: the columns of the bodies passed are worked, the others are +0, and outside the slopes nothing has changed. The measure
 -- is the bodies to come. Assumes nothing.
 use mathlib.Core.Path.{◌≡◌, subst, ◌∙◌}
-use Prim.Native.Nat.{◌+◌, ◌-◌, ◌≤◌}
+use Prim.Native.Nat.{◌+◌}
 use native.Mathlib.Omega.{arith}
 use lib.ListN.{length}
 use Rattle.scene.specs.Scene.{scene_of}
-use Rattle.slopes.specs.AnewSlopes.{given}
 use Rattle.slopes.proofs.AnewLaws.{given_more, given_among, given_all}
 use Rattle.slopes.proofs.BodyLaws.{Reached, apart_same, poses_start, reached_start, reached_standing, reached_step, slopes_is}
 use Rattle.slopes.proofs.anew_slopes.slopes.Goals as goal
@@ -23,7 +22,7 @@ loop-i-init c =
 pub anew_body-requires : goal.anew_body-requires
 anew_body-requires c =
     let sized : length c.poses_at.new.s ≡ length c.args.s.now =
-        c.poses_at.ensures.kept.size ∙ c.clear.ensures.kept.size in
+    c.poses_at.ensures.kept.size ∙ c.clear.ensures.kept.size in
     let l = c.loop-i in
     let g = c.args in
     let start = poses_start g.sheet.now g.scene g.at g.s.now _ _ c.requires.apart c.clear.ensures c.poses_at.ensures in
@@ -41,7 +40,7 @@ loop-i-preserved c =
 pub shape_of-s : goal.shape_of-s
 shape_of-s c =
     let sized : length c.poses_at.new.s ≡ length c.args.s.now =
-        c.poses_at.ensures.kept.size ∙ c.clear.ensures.kept.size in
+    c.poses_at.ensures.kept.size ∙ c.clear.ensures.kept.size in
     c.loop-i.invariant.1.size ∙ sized
 
 pub returns : goal.returns

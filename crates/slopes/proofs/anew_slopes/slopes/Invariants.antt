@@ -1,13 +1,9 @@
 -- `slopes::anew_slopes::slopes` meets its contract. The invariant: the columns of the bodies passed are worked, the others are +0, and outside the slopes nothing has changed. The measure
 -- is the bodies to come. Assumes nothing.
-use mathlib.Core.Path.{◌≡◌, subst, ◌∙◌}
-use Prim.Native.Nat.{◌+◌, ◌-◌, ◌≤◌}
-use native.Mathlib.Omega.{arith}
-use lib.ListN.{length}
+use Prim.Native.Nat.{◌-◌, ◌≤◌}
 use Rattle.scene.specs.Scene.{scene_of}
 use Rattle.slopes.specs.AnewSlopes.{given}
-use Rattle.slopes.proofs.AnewLaws.{given_more, given_among, given_all}
-use Rattle.slopes.proofs.BodyLaws.{Reached, apart_same, poses_start, reached_start, reached_standing, reached_step, slopes_is}
+use Rattle.slopes.proofs.BodyLaws.{Reached}
 use Rattle.slopes.proofs.anew_slopes.slopes.Given as goal
 
 abbrev pub invariant-loop-i : goal.invariant-loop-i

@@ -1,13 +1,11 @@
 -- `slopes::moved::named_columns` meets its contract. The invariant: the slopes of the rows of the relations passed are written, these rows are the first of all, and no other place has
 -- changed. The measure is the relations to come. Assumes nothing.
 use mathlib.Core.Path.{◌≡◌, refl}
-use Prim.Native.Nat.{◌+◌, ◌-◌, ◌*◌, ◌≤◌}
+use Prim.Native.Nat.{◌+◌, ◌*◌, ◌≤◌}
 use native.Mathlib.Omega.{arith}
 use native.Mathlib.Nat.{mul-le-mul_right}
-use Rattle.scene.specs.Solve.{all_rows}
-use Rattle.scene.specs.Scene.{scene_of, poses_in}
-use Rattle.slopes.specs.Moved.{moved_slope, Block}
-use Rattle.slopes.proofs.MovedLaws.{Passed, passed_start, passed_among, passed_room, passed_step, passed_slope, passed_end, block_no_rows, block_rows, block_as, block_poses, still_clear, room_next}
+use Rattle.scene.specs.Scene.{poses_in}
+use Rattle.slopes.proofs.MovedLaws.{passed_start, passed_among, passed_room, passed_step, passed_slope, passed_end, block_no_rows, block_rows, block_as, block_poses, still_clear, room_next}
 use Rattle.slopes.proofs.moved.named_columns.Goals as goal
 
 pub loop-j-init : goal.loop-j-init
@@ -22,7 +20,7 @@ overflow_add-scene c = let laid = c.requires.laid in omega arith
 pub overflow_mul-row : goal.overflow_mul-row
 overflow_mul-row c =
     let inside : let g = c.args in g.o + c.loop-j.row * g.n ≤ g.p =
-        let room = c.requires.room in
+    let room = c.requires.room in
     let w = mul-le-mul_right c.args.n (passed_among _ _ _ _ c.requires.laid c.loop-j.invariant.1) in
     omega arith in
     omega (arith, inside)
@@ -30,7 +28,7 @@ overflow_mul-row c =
 pub overflow_add-o : goal.overflow_add-o
 overflow_add-o c =
     let inside : let g = c.args in g.o + c.loop-j.row * g.n ≤ g.p =
-        let room = c.requires.room in
+    let room = c.requires.room in
     let w = mul-le-mul_right c.args.n (passed_among _ _ _ _ c.requires.laid c.loop-j.invariant.1) in
     omega arith in
     omega (arith, inside)

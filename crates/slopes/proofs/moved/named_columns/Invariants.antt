@@ -1,13 +1,10 @@
 -- `slopes::moved::named_columns` meets its contract. The invariant: the slopes of the rows of the relations passed are written, these rows are the first of all, and no other place has
 -- changed. The measure is the relations to come. Assumes nothing.
-use mathlib.Core.Path.{◌≡◌, refl}
-use Prim.Native.Nat.{◌+◌, ◌-◌, ◌*◌, ◌≤◌}
-use native.Mathlib.Omega.{arith}
-use native.Mathlib.Nat.{mul-le-mul_right}
+use Prim.Native.Nat.{◌-◌, ◌≤◌}
 use Rattle.scene.specs.Solve.{all_rows}
 use Rattle.scene.specs.Scene.{scene_of, poses_in}
 use Rattle.slopes.specs.Moved.{moved_slope, Block}
-use Rattle.slopes.proofs.MovedLaws.{Passed, passed_start, passed_among, passed_room, passed_step, passed_slope, passed_end, block_no_rows, block_rows, block_as, block_poses, still_clear, room_next}
+use Rattle.slopes.proofs.MovedLaws.{Passed}
 use Rattle.slopes.proofs.moved.named_columns.Given as goal
 
 abbrev pub invariant-loop-j : goal.invariant-loop-j

@@ -2,9 +2,8 @@
 -- slope (`named_not`). Assumes nothing.
 use mathlib.Core.Path.{refl, sym, ap, ◌∙◌}
 use lib.ListN.{length}
-use borrow.Author.Rules.{rules}
 use Rattle.relations.specs.Model.{Rel}
-use Rattle.scene.specs.Solve.{names, rows_at}
+use Rattle.scene.specs.Solve.{rows_at}
 use Rattle.scene.specs.Scene.{poses_in}
 use Rattle.slopes.proofs.MovedLaws.{named_not, rel_columns_is, room_as}
 use Rattle.slopes.proofs.moved.named_rel.Goals as goal

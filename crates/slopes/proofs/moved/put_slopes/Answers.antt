@@ -1,13 +1,10 @@
 -- `slopes::moved::put_slopes` meets its contract. The invariant: the first r slopes are written and no other place has changed. The measure is the slopes to come. Assumes nothing.
 use mathlib.Core.Path.{◌≡◌, sym}
-use Prim.Native.Nat.{◌-◌, ◌≤◌}
 use native.Mathlib.Omega.{arith}
 use lib.Ieee.{nan}
-use lib.ListN.{get_or}
 use lib.Seq.{get_or-take}
 use Rattle.relations.specs.Rows.{rows_of}
 use Rattle.least_squares.specs.Lm.{slope_of}
-use Rattle.slopes.specs.Moved.{Strided}
 use Rattle.slopes.proofs.MovedLaws.{strided_start, strided_step, strided_as}
 use Rattle.slopes.proofs.moved.put_slopes.Goals as goal
 

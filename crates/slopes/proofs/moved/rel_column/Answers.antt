@@ -4,7 +4,6 @@ use mathlib.Core.Path.{◌≡◌, sym, ap, ◌∙◌}
 use native.Mathlib.Omega.{arith}
 use lib.Ieee.{Float, nan}
 use lib.ListN.{length, get_or, set}
-use borrow.Author.Rules.{rules}
 use Rattle.relations.specs.Geometry.{Pose}
 use Rattle.relations.specs.Model.{rel_of}
 use Rattle.relations.specs.Rows.{pack}
@@ -22,10 +21,10 @@ overflow_add-o c = let r = c.requires.room in omega arith
 pub put_slopes-requires : goal.put_slopes-requires
 put_slopes-requires c =
     let down : let g = c.args in c.rel_rows_moved-minus.result ≡ pack (rows_at (poses_behind (poses_in g.s.now g.p g.m) g.i g.moved.now g.e) (rel_of g.rel)) =
-        let g = c.args in
+    let g = c.args in
     c.rel_rows_moved-minus.ensures ∙ ap (λ (q : Pose Float). pack (rows_at (set (poses_in g.s.now g.p g.m) g.i q) (rel_of g.rel))) c.pose_at-2.ensures in
     let up : let g = c.args in c.rel_rows_moved-plus.result ≡ pack (rows_at (poses_ahead (poses_in g.s.now g.p g.m) g.i g.moved.now g.e) (rel_of g.rel)) =
-        let g = c.args in
+    let g = c.args in
     c.rel_rows_moved-plus.ensures ∙ ap (λ (q : Pose Float). pack (rows_at (set (poses_in g.s.now g.p g.m) g.i q) (rel_of g.rel))) c.pose_at.ensures in
     let g = c.args in
     let room = c.requires.room in
@@ -38,10 +37,10 @@ put_slopes-requires c =
 pub returns : goal.returns
 returns c =
     let down : let g = c.args in c.rel_rows_moved-minus.result ≡ pack (rows_at (poses_behind (poses_in g.s.now g.p g.m) g.i g.moved.now g.e) (rel_of g.rel)) =
-        let g = c.args in
+    let g = c.args in
     c.rel_rows_moved-minus.ensures ∙ ap (λ (q : Pose Float). pack (rows_at (set (poses_in g.s.now g.p g.m) g.i q) (rel_of g.rel))) c.pose_at-2.ensures in
     let up : let g = c.args in c.rel_rows_moved-plus.result ≡ pack (rows_at (poses_ahead (poses_in g.s.now g.p g.m) g.i g.moved.now g.e) (rel_of g.rel)) =
-        let g = c.args in
+    let g = c.args in
     c.rel_rows_moved-plus.ensures ∙ ap (λ (q : Pose Float). pack (rows_at (set (poses_in g.s.now g.p g.m) g.i q) (rel_of g.rel))) c.pose_at.ensures in
     let g = c.args in
     let poses = poses_in g.s.now g.p g.m in

@@ -2,15 +2,12 @@
 -- entry. The measure is the unknowns to come. Assumes nothing.
 use mathlib.Core.Path.{◌≡◌, refl, ap}
 use mathlib.Core.List.{List}
-use Prim.Native.Nat.{◌-◌, ◌≤◌}
 use native.Mathlib.Omega.{arith}
 use lib.Ieee.{Float}
-use lib.ListN.{length}
 use Rattle.relations.specs.Geometry.{Pose}
 use Rattle.relations.specs.Model.{rel_of}
 use Rattle.scene.specs.Solve.{rows_at}
-use Rattle.scene.specs.Scene.{poses_in}
-use Rattle.slopes.specs.Moved.{moved_slope, Block}
+use Rattle.slopes.specs.Moved.{moved_slope}
 use Rattle.slopes.proofs.MovedLaws.{rel_length, block_no_columns, block_column, block_as, block_poses, strided_as, room_as}
 use Rattle.slopes.proofs.moved.rel_columns.Goals as goal
 

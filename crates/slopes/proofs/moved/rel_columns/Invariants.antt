@@ -1,17 +1,11 @@
 -- `slopes::moved::rel_columns` meets its contract. The invariant: the slopes along the first e unknowns are written and no other place has changed, so the poses behind them are as at
 -- entry. The measure is the unknowns to come. Assumes nothing.
-use mathlib.Core.Path.{◌≡◌, refl, ap}
-use mathlib.Core.List.{List}
 use Prim.Native.Nat.{◌-◌, ◌≤◌}
-use native.Mathlib.Omega.{arith}
-use lib.Ieee.{Float}
 use lib.ListN.{length}
-use Rattle.relations.specs.Geometry.{Pose}
 use Rattle.relations.specs.Model.{rel_of}
 use Rattle.scene.specs.Solve.{rows_at}
 use Rattle.scene.specs.Scene.{poses_in}
 use Rattle.slopes.specs.Moved.{moved_slope, Block}
-use Rattle.slopes.proofs.MovedLaws.{rel_length, block_no_columns, block_column, block_as, block_poses, strided_as, room_as}
 use Rattle.slopes.proofs.moved.rel_columns.Given as goal
 
 abbrev pub invariant-loop-e : goal.invariant-loop-e

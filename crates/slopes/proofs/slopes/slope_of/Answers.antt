@@ -1,7 +1,6 @@
 -- `slopes::slopes::slope_of` meets its contract: the quotient is the definition's own, `is_finite` promises the definition's test of it, and the branch fixes the side
 -- that `cond` takes. Assumes nothing.
 use mathlib.Core.Path.{sym, ◌∙◌}
-use borrow.Author.Rules.{rules}
 use Rattle.slopes.proofs.slopes.slope_of.Goals as goal
 
 pub returns-then-is_finite : goal.returns-then-is_finite

@@ -1,5 +1,4 @@
 -- `slopes::slopes::step_of` meets its contract: `step_of` unfolds to the same product, and what `abs` promises is put into what `max` promises. Assumes nothing.
-use borrow.Author.Rules.{rules}
 use Rattle.least_squares.specs.Lm.{step_of}
 use Rattle.slopes.proofs.slopes.step_of.Goals as goal
 

@@ -1,0 +1,18 @@
+-- `body_freedom::body::fill_slides` meets its contract. The loop's invariant: `out` filled in the rounds left is `slides` filled in three. Assumes nothing.
+use native.Mathlib.Omega.{arith}
+use Prim.Native.Nat.{◌≤◌, ◌-◌}
+use mathlib.Core.Path.{◌≡◌, refl}
+use mathlib.Core.Logic.{⊎_elim}
+use lib.ListN.{length, length-map}
+use borrow.Author.Tests.{leb-true, leb-false}
+use Rattle.spans.specs.Basis.{basis, basis_of}
+use Rattle.body_freedom.specs.Dof.{extra_slide, join_slide, fill_slides}
+use Rattle.body_freedom.specs.BodyFreedom.{motions}
+use Rattle.body_freedom.proofs.BodyLaws.{whole_of, count_within, filled_enough, filled_full, filled_end, filled_few, filled_step}
+use Rattle.body_freedom.proofs.body.fill_slides.Given as goal
+
+abbrev pub invariant-loop-k : goal.invariant-loop-k
+invariant-loop-k l = (l.k ≤ 3) × (length l.f.pairs ≡ 6) × (l.out ≡ basis_of (basis l.out)) × (l.out.count ≤ 3) × (basis_of (fill_slides (motions l.f) l.turns (3 - l.k) (basis l.out)) ≡ basis_of (fill_slides (motions l.f) l.turns 3 (basis l.initial.out)))
+
+abbrev pub decreases-loop-k : goal.decreases-loop-k
+decreases-loop-k l = 3 - l.k
