@@ -25,7 +25,7 @@ use Rattle.least_squares.specs.Memory.{part, Kept}
 use Rattle.least_squares.proofs.FiniteLaws.{jacobian_finite, finite_part}
 use Rattle.least_squares.proofs.MemoryLaws.{part_at, kept_at_below}
 use Rattle.least_squares.proofs.TableLaws.{sum_same, in_rows}
-use Rattle.body_freedom.specs.Dof.{columns_times, zeros}
+use Rattle.body_freedom.specs.Dof.{columns_times}
 use Rattle.body_freedom.specs.Square.{products_in}
 
 -- ---- the list of rows

@@ -1,9 +1,9 @@
 -- `dof` of solve.rs: what freedom each body has with the others held still, and the whole assembly. Document 01, "The train of files", item 6, and "The sheet" for the
 -- 29 doubles of a body. Definitions only.
-use Rattle.std.specs.Prelude.{ℕ, zero, suc, ◌+◌, ◌-◌, ◌*◌, min, Bool, true, false, not, ◌&&◌, ◌||◌, cond, List, [], ◌∷◌, ◌++◌, map, length, get_or, set, replicate, eqb, ltb, Float}
+use Rattle.std.specs.Prelude.{ℕ, zero, suc, ◌+◌, ◌-◌, ◌*◌, min, Bool, true, false, not, ◌&&◌, ◌||◌, cond, List, [], ◌∷◌, ◌++◌, map, length, get_or, set, eqb, ltb, Float}
 use Rattle.std.proofs.Math.Option.{Option, none, some}
 use Rattle.std.specs.Float.{nan, binary64}
-use Rattle.std.specs.Float.Ieee.{add, mul, div, neg, lt, le, of_bits}
+use Rattle.std.specs.Float.Ieee.{mul, div, neg, lt, le, of_bits}
 use Rattle.numbers.specs.Ops.{doubles}
 use Rattle.numbers.specs.Sum.{sum_from}
 use Rattle.numbers.specs.Double.{zero64, one64, abs, fmax, before}

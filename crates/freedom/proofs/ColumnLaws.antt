@@ -17,7 +17,7 @@ use Rattle.relations.specs.Geometry.{Pose}
 use Rattle.relations.specs.Model.{Body, Rel}
 use Rattle.relations.specs.Rows.{ground_pose}
 use Rattle.records.specs.Record.{body_at}
-use Rattle.least_squares.specs.Lm.{list_of, table_of, slope_of, ahead, behind, slope, jacobian}
+use Rattle.least_squares.specs.Lm.{list_of, table_of, slope_of, slope, jacobian}
 use Rattle.least_squares.specs.Memory.{part}
 use Rattle.scene.specs.Solve.{Scene, moves, layout_from, layout, unknowns_in, three, moved_pose, pose_at, poses_from, poses_at, all_rows, half_size}
 use Rattle.scene.specs.Scene.{first_unknown, scene_of, Laid, poses_doubles, poses_in, Put}

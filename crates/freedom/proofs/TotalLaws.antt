@@ -16,7 +16,7 @@ use lib.Ieee.{Float, nan, binary64, div, lt, le}
 use Rattle.numbers.specs.Double.{zero64, fmax}
 use Rattle.arcs.specs.Root.{root}
 use Rattle.eigen.specs.Eigen.{Eigen, sym_eigen}
-use Rattle.least_squares.specs.Lm.{slope, jacobian}
+use Rattle.least_squares.specs.Lm.{jacobian}
 use Rattle.least_squares.specs.Memory.{part, Kept}
 use Rattle.relations.specs.Model.{Body, Rel}
 use Rattle.records.specs.Record.{body_at}

@@ -33,6 +33,6 @@ pub returns-else-x-2 : goal.returns-else-x-2
 unfolding fmax
 returns-else-x-2 c =
     elim c.else-x-2.branch [
-        else-x-2-via-then-x-2+else-y-2 w ↦ rw (number _ c.if-x.false, number _ c.if-y.false, w.if-x-2.true, w.if-y-2.false, c.if-x-y.false)
+      | else-x-2-via-then-x-2+else-y-2 w ↦ rw (number _ c.if-x.false, number _ c.if-y.false, w.if-x-2.true, w.if-y-2.false, c.if-x-y.false)
       | else-x-2-via-else-x-2 w ↦ rw (number _ c.if-x.false, number _ c.if-y.false, w.if-x-2.false, c.if-x-y.false)
     ]

@@ -4,7 +4,6 @@ use lib.Ieee.{Float}
 use Rattle.numbers.specs.Ops.{doubles}
 use Rattle.numbers.specs.Double.{abs}
 use Rattle.vectors.specs.Vec.{Vec, vec, dot}
-use borrow.Author.Rules.{rules}
 use Rattle.body_freedom.proofs.body.about_axis.Goals as goal
 
 pub returns : goal.returns

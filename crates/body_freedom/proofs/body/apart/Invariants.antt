@@ -1,13 +1,10 @@
 -- `body_freedom::body::apart` meets its contract. The loop's invariant: what the vectors left say is what all say. Assumes nothing.
-use native.Mathlib.Omega.{arith}
 use Prim.Native.Nat.{◌≤◌, ◌-◌}
-use mathlib.Core.Path.{◌≡◌, refl, sym, ap, ◌∙◌}
-use lib.ListN.{length, drop, length-map}
-use lib.Ieee.{Float}
-use borrow.Author.Tests.{not-true, not-false}
-use Rattle.vectors.specs.Vec.{Vec, vec}
-use Rattle.spans.specs.Basis.{first, basis}
-use Rattle.body_freedom.proofs.BodyLaws.{lean_all, lean_step, lean_stop, lean_end, apart_is}
+use mathlib.Core.Path.{◌≡◌}
+use lib.ListN.{length, drop}
+use Rattle.vectors.specs.Vec.{vec}
+use Rattle.spans.specs.Basis.{first}
+use Rattle.body_freedom.proofs.BodyLaws.{lean_all}
 use Rattle.body_freedom.proofs.body.apart.Given as goal
 
 abbrev pub invariant-loop-i : goal.invariant-loop-i

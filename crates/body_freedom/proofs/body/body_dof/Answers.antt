@@ -6,7 +6,6 @@ use Rattle.spans.specs.Basis.{first}
 use Rattle.spans.proofs.Flat.{good_grid}
 use Rattle.body_freedom.specs.Dof.{SPAN}
 use Rattle.body_freedom.proofs.BodyLaws.{whole_of, few_of, body_is}
-use borrow.Author.Rules.{rules}
 use Rattle.body_freedom.proofs.body.body_dof.Goals as goal
 
 pub fill_slides-slides-requires : goal.fill_slides-slides-requires
@@ -14,16 +13,16 @@ fill_slides-slides-requires c =
     let parts = first c.free_of-pure.result.count c.slide_parts.result in (
       whole_of c.span_basis-straight.result (span_basis parts SPAN) c.span_basis-straight.ensures,
       few_of c.span_basis-axes.result _ _ c.span_basis-axes.ensures,
-      c.Free-of.ensures.0,
+      c.free_of-free.ensures.0,
     )
 
 pub points_of-points-requires : goal.points_of-points-requires
-points_of-points-requires c = (c.Free-of.ensures.0, few_of c.span_basis-axes.result _ _ c.span_basis-axes.ensures)
+points_of-points-requires c = (c.free_of-free.ensures.0, few_of c.span_basis-axes.result _ _ c.span_basis-axes.ensures)
 
 pub returns : goal.returns
 returns c =
     body_is c.args.a (good_grid 6 _ _ c.well_formed.0) (vec c.args.center) c.args.l c.sym_eigen-pairs.result c.sym_eigen.result c.top-most.result
-    c.Free-of.result
+    c.free_of-free.result
     c.free_of-pure.result
     c.turn_parts.result
     c.slide_parts.result
@@ -33,7 +32,7 @@ returns c =
     c.points_of-points.result
     c.sym_eigen-pairs.ensures
     c.top-most.ensures
-    c.Free-of.ensures.1
+    c.free_of-free.ensures.1
     c.turn_parts.ensures
     c.span_basis-axes.ensures
     c.sym_eigen.ensures

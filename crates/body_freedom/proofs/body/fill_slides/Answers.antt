@@ -1,30 +1,30 @@
 -- `body_freedom::body::fill_slides` meets its contract. The loop's invariant: `out` filled in the rounds left is `slides` filled in three. Assumes nothing.
 use native.Mathlib.Omega.{arith}
-use Prim.Native.Nat.{◌≤◌, ◌-◌}
 use mathlib.Core.Path.{◌≡◌, refl}
-use mathlib.Core.Logic.{⊎_elim}
-use lib.ListN.{length, length-map}
-use borrow.Author.Tests.{leb-true, leb-false}
+use lib.ListN.{length}
 use Rattle.spans.specs.Basis.{basis, basis_of}
 use Rattle.body_freedom.specs.Dof.{extra_slide, join_slide, fill_slides}
 use Rattle.body_freedom.specs.BodyFreedom.{motions}
 use Rattle.body_freedom.proofs.BodyLaws.{whole_of, count_within, filled_enough, filled_full, filled_end, filled_few, filled_step}
 use Rattle.body_freedom.proofs.body.fill_slides.Goals as goal
+use Rattle.body_freedom.proofs.body.fill_slides.Goals.{then-free-count-via-then-free-count, then-free-count-via-else-free-count+then-count-ge3}
 
 pub loop-k-init : goal.loop-k-init
 loop-k-init c =
-    let long : length c.args.slides.vectors ≡ 3 = simp length-map at c.well_formed.0.1.1.1.0.1.0.1 in
-    (omega arith, simp length-map at c.well_formed.1.0.1.1.1.0.1.0.1, c.requires.0, count_within c.args.slides c.requires.0 long, refl)
+    let long : length c.args.slides.vectors ≡ 3 = c.well_formed.0.1.1.1.0.1.0.1 in
+    (omega arith, c.well_formed.1.0.1.1.1.0.1.0.1, c.requires.0, count_within c.args.slides c.requires.0 long, refl)
 
 pub returns-then-free-count : goal.returns-then-free-count
 returns-then-free-count c =
     let l = c.loop-k in
     let g = basis_of (fill_slides (motions c.args.f) c.args.turns 3 (basis c.args.slides)) in
-    ⊎_elim (λ w. filled_enough c.args.f (omega arith) c.args.turns l.k l.out g l.invariant.2 (omega (arith, leb-true)) l.invariant.4)
-    (λ w. filled_full c.args.f (omega arith) c.args.turns l.k l.out g l.invariant.2 (omega (arith, leb-true, leb-false)) (omega (arith, leb-true, leb-false)) l.invariant.4) c.then-free-count.branch
+    elim c.then-free-count.branch [
+      | then-free-count-via-then-free-count w ↦ filled_enough c.args.f (omega arith) c.args.turns l.k l.out g l.invariant.2 (omega arith) l.invariant.4
+      | then-free-count-via-else-free-count+then-count-ge3 w ↦ filled_full c.args.f (omega arith) c.args.turns l.k l.out g l.invariant.2 (omega arith) (omega arith) l.invariant.4
+    ]
 
 pub with_extra-b-requires : goal.with_extra-b-requires
-with_extra-b-requires c = (c.loop-k.invariant.2, omega (arith, leb-false), omega arith)
+with_extra-b-requires c = (c.loop-k.invariant.2, omega arith, omega arith)
 
 pub loop-k-preserved : goal.loop-k-preserved
 loop-k-preserved c =
@@ -34,8 +34,8 @@ loop-k-preserved c =
       omega arith,
       l.invariant.1,
       whole_of b.result (join_slide (basis l.out) (extra_slide (basis l.out) (motions c.args.f))) b.ensures,
-      filled_few c.args.f (omega arith) c.args.turns l.k l.out g l.invariant.2 b.result (omega (arith, leb-false)) b.ensures,
-      filled_step c.args.f (omega arith) c.args.turns l.k l.out g l.invariant.2 b.result (omega (arith, leb-false)) b.ensures (omega arith) (omega (arith, leb-false)) l.invariant.4,
+      filled_few c.args.f (omega arith) c.args.turns l.k l.out g l.invariant.2 b.result (omega arith) b.ensures,
+      filled_step c.args.f (omega arith) c.args.turns l.k l.out g l.invariant.2 b.result (omega arith) b.ensures (omega arith) (omega arith) l.invariant.4,
     )
 
 pub returns : goal.returns

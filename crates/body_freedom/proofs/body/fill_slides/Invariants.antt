@@ -1,14 +1,10 @@
 -- `body_freedom::body::fill_slides` meets its contract. The loop's invariant: `out` filled in the rounds left is `slides` filled in three. Assumes nothing.
-use native.Mathlib.Omega.{arith}
 use Prim.Native.Nat.{◌≤◌, ◌-◌}
-use mathlib.Core.Path.{◌≡◌, refl}
-use mathlib.Core.Logic.{⊎_elim}
-use lib.ListN.{length, length-map}
-use borrow.Author.Tests.{leb-true, leb-false}
+use mathlib.Core.Path.{◌≡◌}
+use lib.ListN.{length}
 use Rattle.spans.specs.Basis.{basis, basis_of}
-use Rattle.body_freedom.specs.Dof.{extra_slide, join_slide, fill_slides}
+use Rattle.body_freedom.specs.Dof.{fill_slides}
 use Rattle.body_freedom.specs.BodyFreedom.{motions}
-use Rattle.body_freedom.proofs.BodyLaws.{whole_of, count_within, filled_enough, filled_full, filled_end, filled_few, filled_step}
 use Rattle.body_freedom.proofs.body.fill_slides.Given as goal
 
 abbrev pub invariant-loop-k : goal.invariant-loop-k

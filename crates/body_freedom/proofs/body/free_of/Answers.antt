@@ -1,10 +1,7 @@
 -- `body_freedom::body::free_of` meets its contract. The loop's invariant: the free motions of the first i pairs are held. Assumes nothing.
 use native.Mathlib.Omega.{arith}
-use Prim.Native.Nat.{◌≤◌, ◌-◌}
 use mathlib.Core.Path.{◌≡◌, refl}
-use lib.ListN.{length}
 use Rattle.body_freedom.specs.Dof.{free_of}
-use Rattle.body_freedom.specs.BodyFreedom.{eigens_of, motions}
 use Rattle.body_freedom.proofs.BodyLaws.{free_step}
 use Rattle.body_freedom.proofs.body.free_of.Goals as goal
 

@@ -1,11 +1,9 @@
 -- `body_freedom::body::free_of` meets its contract. The loop's invariant: the free motions of the first i pairs are held. Assumes nothing.
-use native.Mathlib.Omega.{arith}
 use Prim.Native.Nat.{◌≤◌, ◌-◌}
-use mathlib.Core.Path.{◌≡◌, refl}
+use mathlib.Core.Path.{◌≡◌}
 use lib.ListN.{length}
 use Rattle.body_freedom.specs.Dof.{free_of}
 use Rattle.body_freedom.specs.BodyFreedom.{eigens_of, motions}
-use Rattle.body_freedom.proofs.BodyLaws.{free_step}
 use Rattle.body_freedom.proofs.body.free_of.Given as goal
 
 abbrev pub invariant-loop-i : goal.invariant-loop-i

@@ -1,6 +1,5 @@
 -- `body_freedom::body::is_extra` meets its contract: the definition is the conjunction of what `apart` promises and the test of the length that `len` promises; where
 -- `apart` is false, so is the whole. Assumes nothing.
-use borrow.Author.Rules.{rules}
 use Rattle.body_freedom.proofs.body.is_extra.Goals as goal
 
 pub returns-then-apart : goal.returns-then-apart

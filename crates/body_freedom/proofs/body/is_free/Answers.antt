@@ -1,7 +1,6 @@
 -- `body_freedom::body::is_free` meets its contract: the definition is the same disjunction; where its first test fails, the promise of `max` is put into that of
 -- `sqrt`. Assumes nothing.
 use Rattle.body_freedom.specs.Dof.{is_free}
-use borrow.Author.Rules.{rules}
 use Rattle.body_freedom.proofs.body.is_free.Goals as goal
 
 pub returns-then-most : goal.returns-then-most

@@ -1,11 +1,6 @@
 -- `body_freedom::body::largest_value` meets its contract. The loop's invariant: m and the pairs left give what all do. Assumes nothing.
 use native.Mathlib.Omega.{arith}
-use Prim.Native.Nat.{◌≤◌, ◌-◌}
-use mathlib.Core.Path.{◌≡◌, refl, sym, ◌∙◌}
-use lib.ListN.{length, drop}
-use Rattle.numbers.specs.Double.{zero64}
-use Rattle.body_freedom.specs.Dof.{largest_value}
-use Rattle.body_freedom.specs.BodyFreedom.{eigens_of}
+use mathlib.Core.Path.{refl, sym, ◌∙◌}
 use Rattle.body_freedom.proofs.BodyLaws.{largest_step, largest_end}
 use Rattle.body_freedom.proofs.body.largest_value.Goals as goal
 

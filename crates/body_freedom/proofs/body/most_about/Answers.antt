@@ -1,18 +1,14 @@
 -- `body_freedom::body::most_about` meets its contract. The loop's invariant: `best` and the motions left give what all do. Assumes nothing.
 use native.Mathlib.Omega.{arith}
-use Prim.Native.Nat.{◌≤◌, ◌-◌}
 use mathlib.Core.Path.{◌≡◌, sym, ◌∙◌}
-use mathlib.Core.List.{map}
-use lib.ListN.{length, take, drop, length-map}
+use lib.ListN.{length}
 use Rattle.vectors.specs.Vec.{vec}
-use Rattle.body_freedom.specs.Dof.{most_about}
-use Rattle.body_freedom.specs.BodyFreedom.{motion_of, most_of}
 use Rattle.body_freedom.proofs.BodyLaws.{most_start, most_step, most_end}
 use Rattle.body_freedom.proofs.body.most_about.Goals as goal
 
 pub loop-i-init : goal.loop-i-init
 loop-i-init c =
-    let long : length c.args.f.pairs ≡ 6 = simp length-map at c.well_formed.0.1.1.1.0.1.0.1 in
+    let long : length c.args.f.pairs ≡ 6 = c.well_formed.0.1.1.1.0.1.0.1 in
     (omega arith, omega arith, long, most_start c.args.f (omega arith) (vec c.args.axis) (omega arith))
 
 pub loop-i-preserved : goal.loop-i-preserved

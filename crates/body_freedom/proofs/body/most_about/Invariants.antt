@@ -1,13 +1,11 @@
 -- `body_freedom::body::most_about` meets its contract. The loop's invariant: `best` and the motions left give what all do. Assumes nothing.
-use native.Mathlib.Omega.{arith}
 use Prim.Native.Nat.{◌≤◌, ◌-◌}
-use mathlib.Core.Path.{◌≡◌, sym, ◌∙◌}
+use mathlib.Core.Path.{◌≡◌}
 use mathlib.Core.List.{map}
-use lib.ListN.{length, take, drop, length-map}
+use lib.ListN.{length, take, drop}
 use Rattle.vectors.specs.Vec.{vec}
 use Rattle.body_freedom.specs.Dof.{most_about}
 use Rattle.body_freedom.specs.BodyFreedom.{motion_of, most_of}
-use Rattle.body_freedom.proofs.BodyLaws.{most_start, most_step, most_end}
 use Rattle.body_freedom.proofs.body.most_about.Given as goal
 
 abbrev pub invariant-loop-i : goal.invariant-loop-i

@@ -1,15 +1,13 @@
 -- `body_freedom::body::points_of` meets its contract. The loop's invariant: the points of the first i turns stand, the others are zero. Assumes nothing.
 use native.Mathlib.Omega.{arith}
-use Prim.Native.Nat.{◌≤◌, ◌-◌}
-use mathlib.Core.Path.{◌≡◌, refl}
-use lib.ListN.{length, length-map}
+use mathlib.Core.Path.{refl}
 use Rattle.vectors.specs.Vec.{vec}
 use Rattle.body_freedom.specs.BodyFreedom.{motions}
-use Rattle.body_freedom.proofs.BodyLaws.{points_to, length_points_to, points_step, points_end}
+use Rattle.body_freedom.proofs.BodyLaws.{length_points_to, points_step, points_end}
 use Rattle.body_freedom.proofs.body.points_of.Goals as goal
 
 pub loop-i-init : goal.loop-i-init
-loop-i-init c = (omega arith, simp length-map at c.well_formed.1.0.1.1.1.0.1.0.1, refl)
+loop-i-init c = (omega arith, c.well_formed.1.0.1.1.1.0.1.0.1, refl)
 
 pub bounds-points-i : goal.bounds-points-i
 bounds-points-i c =

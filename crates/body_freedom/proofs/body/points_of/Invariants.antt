@@ -1,11 +1,10 @@
 -- `body_freedom::body::points_of` meets its contract. The loop's invariant: the points of the first i turns stand, the others are zero. Assumes nothing.
-use native.Mathlib.Omega.{arith}
 use Prim.Native.Nat.{◌≤◌, ◌-◌}
-use mathlib.Core.Path.{◌≡◌, refl}
-use lib.ListN.{length, length-map}
+use mathlib.Core.Path.{◌≡◌}
+use lib.ListN.{length}
 use Rattle.vectors.specs.Vec.{vec}
 use Rattle.body_freedom.specs.BodyFreedom.{motions}
-use Rattle.body_freedom.proofs.BodyLaws.{points_to, length_points_to, points_step, points_end}
+use Rattle.body_freedom.proofs.BodyLaws.{points_to}
 use Rattle.body_freedom.proofs.body.points_of.Given as goal
 
 abbrev pub invariant-loop-i : goal.invariant-loop-i

@@ -2,7 +2,6 @@
 -- at the end of the list (`push`). Assumes nothing.
 use Rattle.vectors.specs.Vec.{vec, normalized}
 use Rattle.body_freedom.proofs.BodyLaws.{push}
-use borrow.Author.Rules.{rules}
 use Rattle.body_freedom.proofs.body.push_slide.Goals as goal
 
 pub returns : goal.returns

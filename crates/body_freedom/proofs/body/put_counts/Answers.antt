@@ -3,7 +3,6 @@ use native.Mathlib.Omega.{arith}
 use Prim.Native.Nat.{◌+◌}
 use lib.ListN.{length-set}
 use Rattle.scene.proofs.SceneLaws.{put_one, put_then}
-use borrow.Author.Rules.{rules}
 use Rattle.body_freedom.proofs.body.put_counts.Goals as goal
 
 pub bounds-s-o-2 : goal.bounds-s-o-2

@@ -1,7 +1,6 @@
 -- `body_freedom::body::put_freedom` meets its contract. The counts, the slides and the turns, one after the other. Assumes nothing.
 use mathlib.Core.Path.{refl}
 use Rattle.scene.proofs.SceneLaws.{put_then}
-use borrow.Author.Rules.{rules}
 use Rattle.body_freedom.proofs.body.put_freedom.Goals as goal
 
 pub returns : goal.returns

@@ -2,7 +2,6 @@
 use native.Mathlib.Omega.{arith}
 use mathlib.Core.Path.{refl}
 use mathlib.Core.List.{[]}
-use borrow.Author.Rules.{rules}
 use Rattle.body_freedom.specs.Dof.{Freedom}
 use Rattle.body_freedom.specs.BodyFreedom.{freedom_struct}
 use Rattle.body_freedom.proofs.BodyLaws.{put_struct}

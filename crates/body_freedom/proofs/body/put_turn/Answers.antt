@@ -1,7 +1,6 @@
 -- `body_freedom::body::put_turn` meets its contract. Two vectors, one after the other. Assumes nothing.
 use mathlib.Core.Path.{refl}
 use Rattle.scene.proofs.SceneLaws.{put_then}
-use borrow.Author.Rules.{rules}
 use Rattle.body_freedom.proofs.body.put_turn.Goals as goal
 
 pub returns : goal.returns

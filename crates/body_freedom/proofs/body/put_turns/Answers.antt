@@ -1,7 +1,6 @@
 -- `body_freedom::body::put_turns` meets its contract. Three turns, one after the other. Assumes nothing.
 use mathlib.Core.Path.{refl}
 use Rattle.scene.proofs.SceneLaws.{put_then}
-use borrow.Author.Rules.{rules}
 use Rattle.body_freedom.proofs.body.put_turns.Goals as goal
 
 pub returns : goal.returns

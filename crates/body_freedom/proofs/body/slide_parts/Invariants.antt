@@ -1,13 +1,11 @@
 -- `body_freedom::body::slide_parts` meets its contract. The loop's invariant: the parts of the first i motions stand. Assumes nothing.
-use native.Mathlib.Omega.{arith}
 use Prim.Native.Nat.{◌≤◌, ◌-◌}
-use mathlib.Core.Path.{◌≡◌, refl, ◌∙◌}
+use mathlib.Core.Path.{◌≡◌}
 use mathlib.Core.List.{map}
-use lib.ListN.{length, take, length-map, length-set}
+use lib.ListN.{length, take}
 use Rattle.spans.specs.Basis.{first}
 use Rattle.body_freedom.specs.Dof.{slide_part}
 use Rattle.body_freedom.specs.BodyFreedom.{motion_of}
-use Rattle.body_freedom.proofs.BodyLaws.{parts_step}
 use Rattle.body_freedom.proofs.body.slide_parts.Given as goal
 
 abbrev pub invariant-loop-i : goal.invariant-loop-i

@@ -1,17 +1,13 @@
 -- `body_freedom::body::turn_parts` meets its contract. The loop's invariant: the parts of the first i motions stand. Assumes nothing.
 use native.Mathlib.Omega.{arith}
-use Prim.Native.Nat.{◌≤◌, ◌-◌}
 use mathlib.Core.Path.{◌≡◌, refl, ◌∙◌}
-use mathlib.Core.List.{map}
-use lib.ListN.{length, take, length-map, length-set}
-use Rattle.spans.specs.Basis.{first}
+use lib.ListN.{length-set}
 use Rattle.body_freedom.specs.Dof.{turn_part}
-use Rattle.body_freedom.specs.BodyFreedom.{motion_of}
 use Rattle.body_freedom.proofs.BodyLaws.{parts_step}
 use Rattle.body_freedom.proofs.body.turn_parts.Goals as goal
 
 pub loop-i-init : goal.loop-i-init
-loop-i-init c = (omega arith, simp length-map at c.well_formed.0.1.1.1.0.1.0.1, refl, refl)
+loop-i-init c = (omega arith, c.well_formed.0.1.1.1.0.1.0.1, refl, refl)
 
 pub loop-i-preserved : goal.loop-i-preserved
 loop-i-preserved c =

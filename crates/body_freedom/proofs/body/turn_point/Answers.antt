@@ -1,7 +1,6 @@
 -- `body_freedom::body::turn_point`: its steps are those of the definition; a motion that does not turn has its point at the centre. Assumes nothing.
 use Rattle.vectors.specs.Vec.{vec}
 use Rattle.body_freedom.proofs.BodyLaws.{turn_point_some, turn_point_none}
-use borrow.Author.Rules.{rules}
 use Rattle.body_freedom.proofs.body.turn_point.Goals as goal
 
 pub returns-then-w2 : goal.returns-then-w2

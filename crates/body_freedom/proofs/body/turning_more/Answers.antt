@@ -1,6 +1,5 @@
 -- `body_freedom::body::turning_more` meets its contract: what `about_axis` promises of both motions, put into what `before` promises, makes the test the one that
 -- chooses between them. Assumes nothing.
-use borrow.Author.Rules.{rules}
 use Rattle.body_freedom.proofs.body.turning_more.Goals as goal
 
 pub returns-then-before : goal.returns-then-before

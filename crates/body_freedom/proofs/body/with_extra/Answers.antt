@@ -1,18 +1,14 @@
 -- `body_freedom::body::with_extra` meets its contract. The loop's invariant: the first slide of its own is among the motions left. Assumes nothing.
 use native.Mathlib.Omega.{arith}
-use Prim.Native.Nat.{◌≤◌, ◌-◌}
-use mathlib.Core.Path.{◌≡◌, refl, sym, ap, ◌∙◌}
-use mathlib.Core.List.{map}
-use lib.ListN.{length, take, drop, length-map}
+use mathlib.Core.Path.{refl, sym, ap, ◌∙◌}
 use Rattle.vectors.specs.Vec.{vec}
 use Rattle.spans.specs.Basis.{basis}
-use Rattle.body_freedom.specs.Dof.{extra_slide}
-use Rattle.body_freedom.specs.BodyFreedom.{motion_of, is_extra}
+use Rattle.body_freedom.specs.BodyFreedom.{is_extra}
 use Rattle.body_freedom.proofs.BodyLaws.{extra_step, extra_joined, extra_none}
 use Rattle.body_freedom.proofs.body.with_extra.Goals as goal
 
 pub loop-i-init : goal.loop-i-init
-loop-i-init c = (omega arith, simp length-map at c.well_formed.1.0.1.1.1.0.1.0.1, refl)
+loop-i-init c = (omega arith, c.well_formed.1.0.1.1.1.0.1.0.1, refl)
 
 pub push_slide-requires : goal.push_slide-requires
 push_slide-requires c = (c.requires.0, omega arith)

@@ -1,14 +1,11 @@
 -- `body_freedom::body::with_extra` meets its contract. The loop's invariant: the first slide of its own is among the motions left. Assumes nothing.
-use native.Mathlib.Omega.{arith}
 use Prim.Native.Nat.{◌≤◌, ◌-◌}
-use mathlib.Core.Path.{◌≡◌, refl, sym, ap, ◌∙◌}
+use mathlib.Core.Path.{◌≡◌}
 use mathlib.Core.List.{map}
-use lib.ListN.{length, take, drop, length-map}
-use Rattle.vectors.specs.Vec.{vec}
+use lib.ListN.{length, take, drop}
 use Rattle.spans.specs.Basis.{basis}
 use Rattle.body_freedom.specs.Dof.{extra_slide}
-use Rattle.body_freedom.specs.BodyFreedom.{motion_of, is_extra}
-use Rattle.body_freedom.proofs.BodyLaws.{extra_step, extra_joined, extra_none}
+use Rattle.body_freedom.specs.BodyFreedom.{motion_of}
 use Rattle.body_freedom.proofs.body.with_extra.Given as goal
 
 abbrev pub invariant-loop-i : goal.invariant-loop-i

@@ -1,6 +1,5 @@
 -- `body_freedom::body_slopes::body_parts` meets its contract: of so many rows and unknowns there are few slopes, so the product does not wrap. Assumes nothing.
 use native.Mathlib.Omega.{arith}
-use borrow.Author.Rules.{rules}
 use Rattle.body_freedom.proofs.BodySlopeLaws.{few_slopes}
 use Rattle.body_freedom.proofs.body_slopes.body_parts.Goals as goal
 

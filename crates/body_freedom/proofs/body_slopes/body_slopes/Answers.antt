@@ -1,7 +1,6 @@
 -- `body_freedom::body_slopes::body_slopes`: the body's poses a step ahead and behind stand in an array of its own, and the slopes by them are those of the body's rows as a function of
 -- its six unknowns. Assumes nothing.
 use native.Mathlib.Omega.{arith}
-use borrow.Author.Rules.{rules}
 use Rattle.scene.specs.Scene.{scene_of}
 use Rattle.body_freedom.proofs.BodySlopeLaws.{body_slopes_is}
 use Rattle.body_freedom.proofs.body_slopes.body_slopes.Goals as goal

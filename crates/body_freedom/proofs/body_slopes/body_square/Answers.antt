@@ -12,14 +12,14 @@ use Rattle.body_freedom.proofs.body_slopes.body_square.Goals as goal
 pub body_slopes-rows-requires : goal.body_slopes-rows-requires
 body_slopes-rows-requires c =
     let slopes-fit : let g = c.args in length (rows_on (scene_of g.sheet.now g.scene) g.i (poses_in g.s.now g.parts.poses g.scene.m)) * 6 ≤ g.scene.rows * g.scene.n =
-        let g = c.args in
+    let g = c.args in
     on_six g.sheet.now g.scene g.i (poses_in g.s.now g.parts.poses g.scene.m) c.requires.laid c.requires.i_lt_m.0 c.requires.i_lt_m.1 in
     record { laid = c.requires.laid; i_lt_m = c.requires.i_lt_m.0; body_apart = c.requires.body_apart; m_len_bound = omega (arith, slopes-fit, c.requires.body_apart.slopes) }
 
 pub square-requires : goal.square-requires
 square-requires c =
     let slopes-fit : let g = c.args in length (rows_on (scene_of g.sheet.now g.scene) g.i (poses_in g.s.now g.parts.poses g.scene.m)) * 6 ≤ g.scene.rows * g.scene.n =
-        let g = c.args in
+    let g = c.args in
     on_six g.sheet.now g.scene g.i (poses_in g.s.now g.parts.poses g.scene.m) c.requires.laid c.requires.i_lt_m.0 c.requires.i_lt_m.1 in
     let g = c.args in
     let n = slopes-fit in

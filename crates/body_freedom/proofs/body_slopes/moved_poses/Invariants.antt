@@ -1,9 +1,8 @@
 -- `body_freedom::body_slopes::moved_poses` writes the twelve poses. The invariant: those of the first e unknowns stand, ahead
 -- and behind, and nothing behind the 144 doubles has changed. The measure is the unknowns to come. Assumes nothing.
 use Prim.Native.Nat.{◌-◌, ◌≤◌}
-use native.Mathlib.Omega.{arith}
 use Rattle.relations.specs.Model.{body_of}
-use Rattle.body_freedom.proofs.BodySlopeLaws.{Moving, moving_start, moving_step, moving_end}
+use Rattle.body_freedom.proofs.BodySlopeLaws.{Moving}
 use Rattle.body_freedom.proofs.body_slopes.moved_poses.Given as goal
 
 abbrev pub invariant-loop-e : goal.invariant-loop-e

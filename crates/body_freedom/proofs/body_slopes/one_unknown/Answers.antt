@@ -1,6 +1,5 @@
 -- `body_freedom::body_slopes::one_unknown`: six zeros, and one store. Assumes nothing.
 use mathlib.Core.Path.{refl}
-use borrow.Author.Rules.{rules}
 use Rattle.least_squares.specs.Lm.{list_of}
 use Rattle.body_freedom.proofs.body_slopes.one_unknown.Goals as goal
 

@@ -1,6 +1,5 @@
 -- `body_freedom::body_slopes::put_start`: the pose that is put is that of the frame of the body's record. Assumes nothing.
 use mathlib.Core.Path.{ap, ◌∙◌}
-use borrow.Author.Rules.{rules}
 use Rattle.relations.specs.Model.{Body, pose_of_frame}
 use Rattle.body_freedom.proofs.BodySlopeLaws.{put_as}
 use Rattle.body_freedom.proofs.body_slopes.put_start.Goals as goal

@@ -1,12 +1,9 @@
 -- `body_freedom::body_slopes::put_starts` meets its contract. The invariant: the poses of the bodies passed stand from p on, and with those to come they are
 -- all of them. The measure is the bodies to come. Assumes nothing.
 use mathlib.Core.Path.{◌≡◌, refl}
-use Prim.Native.Nat.{◌-◌, ◌*◌, ◌≤◌}
 use native.Mathlib.Omega.{arith}
-use Rattle.scene.specs.Scene.{scene_of, poses_doubles}
-use Rattle.scene.proofs.SceneLaws.{Growing, growing_start, growing_end}
-use Rattle.body_freedom.specs.BodySlopes.{starts}
-use Rattle.body_freedom.proofs.BodySlopeLaws.{rest_starts, starts_done, starts_step}
+use Rattle.scene.proofs.SceneLaws.{growing_start, growing_end}
+use Rattle.body_freedom.proofs.BodySlopeLaws.{starts_done, starts_step}
 use Rattle.body_freedom.proofs.body_slopes.put_starts.Goals as goal
 
 pub loop-i-init : goal.loop-i-init

@@ -2,7 +2,6 @@
 use mathlib.Core.Path.{ap, ◌∙◌}
 use mathlib.Core.List.{List}
 use lib.Ieee.{Float}
-use borrow.Author.Rules.{rules}
 use Rattle.relations.specs.Model.{body_of}
 use Rattle.body_freedom.specs.BodySlopes.{shifted}
 use Rattle.body_freedom.proofs.BodySlopeLaws.{put_as}

@@ -1,5 +1,4 @@
 -- `body_freedom::body_slopes::shifted`: the pose moved by the six unknowns, the turning ones over the half size that the call gives. Assumes nothing.
-use borrow.Author.Rules.{rules}
 use Rattle.relations.specs.Model.{body_of}
 use Rattle.body_freedom.proofs.BodySlopeLaws.{shifted_is}
 use Rattle.body_freedom.proofs.body_slopes.shifted.Goals as goal

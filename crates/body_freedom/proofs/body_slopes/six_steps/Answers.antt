@@ -2,7 +2,6 @@
 use mathlib.Core.Path.{ap}
 use mathlib.Core.List.{[], ◌∷◌}
 use lib.Ieee.{Float}
-use borrow.Author.Rules.{rules}
 use Rattle.least_squares.specs.Lm.{list_of}
 use Rattle.body_freedom.proofs.body_slopes.six_steps.Goals as goal
 

@@ -1,14 +1,12 @@
 -- `body_freedom::body_slopes::slopes_on` meets its contract. The invariant: the slopes of the rows of the relations passed are written, these rows are the body's first, and no other
 -- place has changed. The measure is the relations to come. Assumes nothing.
 use mathlib.Core.Path.{◌≡◌}
-use Prim.Native.Nat.{◌-◌, ◌*◌, ◌≤◌}
+use Prim.Native.Nat.{◌*◌}
 use native.Mathlib.Omega.{arith}
 use native.Mathlib.Nat.{zero-add, mul-le-mul_right}
-use Rattle.scene.specs.Scene.{scene_of, poses_in}
-use Rattle.slopes.specs.Moved.{moved_slope, Block}
+use Rattle.scene.specs.Scene.{poses_in}
 use Rattle.slopes.proofs.MovedLaws.{block_no_rows, room_next}
-use Rattle.body_freedom.specs.BodySlopes.{rows_on}
-use Rattle.body_freedom.proofs.BodySlopeLaws.{Passed, passed_start, passed_room, passed_step, passed_slopes, passed_end}
+use Rattle.body_freedom.proofs.BodySlopeLaws.{passed_start, passed_room, passed_step, passed_slopes, passed_end}
 use Rattle.body_freedom.proofs.body_slopes.slopes_on.Goals as goal
 
 pub loop-j-init : goal.loop-j-init

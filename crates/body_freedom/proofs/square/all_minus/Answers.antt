@@ -1,10 +1,8 @@
 -- `body_freedom::square::all_minus` meets its contract. The loop's invariant: the products of the rows below r are -0. The measure is the rows to come. Assumes nothing.
 use mathlib.Core.Path.{◌≡◌, refl, sym, ◌∙◌}
 use mathlib.Core.Bool.{true, false}
-use Prim.Native.Nat.{◌+◌, ◌-◌, ◌*◌, ◌≤◌, ◌<◌}
+use Prim.Native.Nat.{◌+◌, ◌*◌, ◌<◌}
 use native.Mathlib.Omega.{arith}
-use borrow.Author.Rules.{rules}
-use borrow.Author.Tests.{not-true, not-false}
 use Rattle.least_squares.proofs.TableLaws.{in_rows}
 use Rattle.numbers.specs.Zeros.{is_minus, all_minus}
 use Rattle.body_freedom.specs.Square.{products_in}
@@ -18,43 +16,43 @@ loop-r-init c = (omega arith, refl)
 pub overflow_mul-o : goal.overflow_mul-o
 overflow_mul-o c =
     let in-i : let g = c.args in c.loop-r.r * g.n + g.i < g.rows * g.n =
-        in_rows _ _ _ _ c.loop-r-test.true c.requires.i_lt_n.0 in
+    in_rows _ _ _ _ c.loop-r-test.true c.requires.i_lt_n.0 in
     omega (arith, in-i)
 
 pub overflow_add-o : goal.overflow_add-o
 overflow_add-o c =
     let in-i : let g = c.args in c.loop-r.r * g.n + g.i < g.rows * g.n =
-        in_rows _ _ _ _ c.loop-r-test.true c.requires.i_lt_n.0 in
+    in_rows _ _ _ _ c.loop-r-test.true c.requires.i_lt_n.0 in
     omega (arith, in-i)
 
 pub offset_bounds-s-o : goal.offset_bounds-s-o
 offset_bounds-s-o c =
     let in-i : let g = c.args in c.loop-r.r * g.n + g.i < g.rows * g.n =
-        in_rows _ _ _ _ c.loop-r-test.true c.requires.i_lt_n.0 in
+    in_rows _ _ _ _ c.loop-r-test.true c.requires.i_lt_n.0 in
     omega (arith, in-i)
 
 pub bounds-s-o : goal.bounds-s-o
 bounds-s-o c =
     let in-i : let g = c.args in c.loop-r.r * g.n + g.i < g.rows * g.n =
-        in_rows _ _ _ _ c.loop-r-test.true c.requires.i_lt_n.0 in
+    in_rows _ _ _ _ c.loop-r-test.true c.requires.i_lt_n.0 in
     omega (arith, in-i)
 
 pub overflow_add-o-in-loop-r : goal.overflow_add-o-in-loop-r
 overflow_add-o-in-loop-r c =
     let in-k : let g = c.args in c.loop-r.r * g.n + g.k < g.rows * g.n =
-        in_rows _ _ _ _ c.loop-r-test.true c.requires.i_lt_n.1 in
+    in_rows _ _ _ _ c.loop-r-test.true c.requires.i_lt_n.1 in
     omega (arith, in-k)
 
 pub offset_bounds-s-o-in-loop-r : goal.offset_bounds-s-o-in-loop-r
 offset_bounds-s-o-in-loop-r c =
     let in-k : let g = c.args in c.loop-r.r * g.n + g.k < g.rows * g.n =
-        in_rows _ _ _ _ c.loop-r-test.true c.requires.i_lt_n.1 in
+    in_rows _ _ _ _ c.loop-r-test.true c.requires.i_lt_n.1 in
     omega (arith, in-k)
 
 pub bounds-s-o-in-loop-r : goal.bounds-s-o-in-loop-r
 bounds-s-o-in-loop-r c =
     let in-k : let g = c.args in c.loop-r.r * g.n + g.k < g.rows * g.n =
-        in_rows _ _ _ _ c.loop-r-test.true c.requires.i_lt_n.1 in
+    in_rows _ _ _ _ c.loop-r-test.true c.requires.i_lt_n.1 in
     omega (arith, in-k)
 
 pub returns-then-not-is_minus : goal.returns-then-not-is_minus

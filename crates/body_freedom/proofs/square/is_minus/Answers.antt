@@ -1,5 +1,4 @@
 -- `body_freedom::square::is_minus` meets its contract: the definition is the conjunction of the two tests; where the first is false, so is the whole. Assumes nothing.
-use borrow.Author.Rules.{rules}
 use Rattle.body_freedom.proofs.square.is_minus.Goals as goal
 
 pub returns-then-x : goal.returns-then-x

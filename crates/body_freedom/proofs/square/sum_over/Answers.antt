@@ -1,11 +1,9 @@
 -- `body_freedom::square::sum_over` meets its contract. The loop's invariant: t is the sum over the first j rows of the list. The measure is the rows to come. Assumes nothing.
 use mathlib.Core.Path.{◌≡◌, refl, sym, ap, ◌∙◌}
-use Prim.Native.Nat.{◌+◌, ◌-◌, ◌*◌, ◌≤◌}
+use Prim.Native.Nat.{◌+◌, ◌*◌, ◌≤◌}
 use native.Mathlib.Omega.{arith}
-use lib.ListN.{length, get_or, take}
+use lib.ListN.{length, get_or}
 use lib.Ieee.{Float, binary64, add}
-use Rattle.numbers.specs.Double.{zero64}
-use Rattle.numbers.specs.Ops.{doubles}
 use Rattle.numbers.specs.Zeros.{sum_over}
 use Rattle.body_freedom.specs.Square.{products_in}
 use Rattle.numbers.proofs.ListedLaws.{over_step}
@@ -18,43 +16,43 @@ loop-j-init c = (omega arith, refl)
 pub overflow_mul-o : goal.overflow_mul-o
 overflow_mul-o c =
     let within : let g = c.args in get_or g.list.now c.loop-j.j 0 * g.n + g.n ≤ length g.s.now =
-        c.requires.by_index c.loop-j.j c.loop-j-test.true in
+    c.requires.by_index c.loop-j.j c.loop-j-test.true in
     omega (arith, within)
 
 pub overflow_add-t : goal.overflow_add-t
 overflow_add-t c =
     let within : let g = c.args in get_or g.list.now c.loop-j.j 0 * g.n + g.n ≤ length g.s.now =
-        c.requires.by_index c.loop-j.j c.loop-j-test.true in
+    c.requires.by_index c.loop-j.j c.loop-j-test.true in
     omega (arith, within)
 
 pub offset_bounds-s-o : goal.offset_bounds-s-o
 offset_bounds-s-o c =
     let within : let g = c.args in get_or g.list.now c.loop-j.j 0 * g.n + g.n ≤ length g.s.now =
-        c.requires.by_index c.loop-j.j c.loop-j-test.true in
+    c.requires.by_index c.loop-j.j c.loop-j-test.true in
     omega (arith, within)
 
 pub bounds-s-o : goal.bounds-s-o
 bounds-s-o c =
     let within : let g = c.args in get_or g.list.now c.loop-j.j 0 * g.n + g.n ≤ length g.s.now =
-        c.requires.by_index c.loop-j.j c.loop-j-test.true in
+    c.requires.by_index c.loop-j.j c.loop-j-test.true in
     omega (arith, within)
 
 pub overflow_add-t-in-loop-j : goal.overflow_add-t-in-loop-j
 overflow_add-t-in-loop-j c =
     let within : let g = c.args in get_or g.list.now c.loop-j.j 0 * g.n + g.n ≤ length g.s.now =
-        c.requires.by_index c.loop-j.j c.loop-j-test.true in
+    c.requires.by_index c.loop-j.j c.loop-j-test.true in
     omega (arith, within)
 
 pub offset_bounds-s-o-in-loop-j : goal.offset_bounds-s-o-in-loop-j
 offset_bounds-s-o-in-loop-j c =
     let within : let g = c.args in get_or g.list.now c.loop-j.j 0 * g.n + g.n ≤ length g.s.now =
-        c.requires.by_index c.loop-j.j c.loop-j-test.true in
+    c.requires.by_index c.loop-j.j c.loop-j-test.true in
     omega (arith, within)
 
 pub bounds-s-o-in-loop-j : goal.bounds-s-o-in-loop-j
 bounds-s-o-in-loop-j c =
     let within : let g = c.args in get_or g.list.now c.loop-j.j 0 * g.n + g.n ≤ length g.s.now =
-        c.requires.by_index c.loop-j.j c.loop-j-test.true in
+    c.requires.by_index c.loop-j.j c.loop-j-test.true in
     omega (arith, within)
 
 pub loop-j-preserved : goal.loop-j-preserved

@@ -1,14 +1,11 @@
 -- `body_freedom::square::sum_over` meets its contract. The loop's invariant: t is the sum over the first j rows of the list. The measure is the rows to come. Assumes nothing.
-use mathlib.Core.Path.{◌≡◌, refl, sym, ap, ◌∙◌}
-use Prim.Native.Nat.{◌+◌, ◌-◌, ◌*◌, ◌≤◌}
-use native.Mathlib.Omega.{arith}
-use lib.ListN.{length, get_or, take}
-use lib.Ieee.{Float, binary64, add}
+use mathlib.Core.Path.{◌≡◌}
+use Prim.Native.Nat.{◌-◌, ◌≤◌}
+use lib.ListN.{take}
 use Rattle.numbers.specs.Double.{zero64}
 use Rattle.numbers.specs.Ops.{doubles}
 use Rattle.numbers.specs.Zeros.{sum_over}
 use Rattle.body_freedom.specs.Square.{products_in}
-use Rattle.numbers.proofs.ListedLaws.{over_step}
 use Rattle.body_freedom.proofs.square.sum_over.Given as goal
 
 abbrev pub invariant-loop-j : goal.invariant-loop-j

@@ -2,7 +2,6 @@
 use native.Mathlib.Omega.{arith}
 use Rattle.format.proofs.RefusalLaws.{sheet_passes}
 use Rattle.refusals.proofs.FigureLaws.{counted}
-use borrow.Author.Rules.{rules}
 use Rattle.refusals.proofs.figures.scene_in.Goals as goal
 
 pub u16_at-m-requires : goal.u16_at-m-requires

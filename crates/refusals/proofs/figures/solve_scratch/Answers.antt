@@ -2,7 +2,6 @@
 use mathlib.Core.Path.{◌≡◌, ◌∙◌}
 use Prim.Native.Nat.{ℕ, ◌+◌}
 use native.Mathlib.Omega.{arith}
-use borrow.Author.Rules.{rules}
 use Rattle.least_squares.specs.Triangle.{triangle}
 use Rattle.refusals.proofs.FigureLaws.{Few, few, row_count, unknown_count}
 use Rattle.refusals.proofs.figures.solve_scratch.Goals as goal
@@ -14,19 +13,19 @@ sums a b c d e f = omega arith
 pub overflow_mul-rows : goal.overflow_mul-rows
 overflow_mul-rows c =
     let small : Few c.scene_in-c.result =
-        few c.args.s.now c.scene_in-c.result c.scene_in-c.ensures c.requires in
+    few c.args.s.now c.scene_in-c.result c.scene_in-c.ensures c.requires in
     let z = small in omega arith
 
 pub places-requires : goal.places-requires
 places-requires c =
     let small : Few c.scene_in-c.result =
-        few c.args.s.now c.scene_in-c.result c.scene_in-c.ensures c.requires in
+    few c.args.s.now c.scene_in-c.result c.scene_in-c.ensures c.requires in
     (small).rows
 
 pub overflow_add-rows : goal.overflow_add-rows
 overflow_add-rows c =
     let small : Few c.scene_in-c.result =
-        few c.args.s.now c.scene_in-c.result c.scene_in-c.ensures c.requires in
+    few c.args.s.now c.scene_in-c.result c.scene_in-c.ensures c.requires in
     let z = small in
     let e = c.places.ensures in
     omega arith
@@ -34,7 +33,7 @@ overflow_add-rows c =
 pub figure-requires : goal.figure-requires
 figure-requires c =
     let small : Few c.scene_in-c.result =
-        few c.args.s.now c.scene_in-c.result c.scene_in-c.ensures c.requires in
+    few c.args.s.now c.scene_in-c.result c.scene_in-c.ensures c.requires in
     let z = small in
     let e = c.places.ensures in
     record { rows_bound = (z.rows, z.unknowns); m_bound = (z.bodies, omega arith); n_bound = z.slopes }

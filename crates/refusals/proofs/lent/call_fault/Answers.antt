@@ -1,7 +1,6 @@
 -- `refusals::lent::call_fault`: the tests in their order. A fault of the sheet comes first (`call_first`), then one of the drag (`call_drag`); with neither, the number is
 -- that of what is chosen (`call_chosen`). Assumes nothing.
 use mathlib.Core.Path.{sym, ◌∙◌}
-use borrow.Author.Rules.{rules}
 use Rattle.refusals.proofs.LentLaws.{call_first, call_drag, call_chosen}
 use Rattle.refusals.proofs.lent.call_fault.Goals as goal
 

@@ -2,7 +2,6 @@
 -- and the number is that of what is lent (`dof_lent`): 10, 9 or 0 by the two comparisons (`slice_short`, `scratch_short`, `all_lent`). Assumes nothing.
 use mathlib.Core.Path.{sym, ◌∙◌}
 use native.Mathlib.Omega.{arith}
-use borrow.Author.Rules.{rules}
 use Rattle.format.proofs.RefusalLaws.{sheet_passes}
 use Rattle.refusals.proofs.LentLaws.{dof_first, dof_lent, slice_short, scratch_short, all_lent, freedoms_short, freedoms_long}
 use Rattle.refusals.proofs.lent.dof_fault.Goals as goal

@@ -3,7 +3,6 @@
 use mathlib.Core.Bool.{true}
 use mathlib.Core.Path.{◌≡◌}
 use native.Mathlib.Omega.{arith}
-use borrow.Author.Rules.{rules}
 use Rattle.format.specs.Format.{bodies_of, relations_of}
 use Rattle.format.proofs.RefusalLaws.{sheet_passes}
 use Rattle.refusals.specs.Parts.{solve_long}
@@ -19,7 +18,7 @@ u16_at-k-requires c = let z = (sheet_passes c.args.sheet.now c.requires).header 
 pub returns-then-poses-m : goal.returns-then-poses-m
 returns-then-poses-m c =
     let counts : let s = c.args.sheet.now in (c.u16_at-m.result ≡ bodies_of s) × (c.u16_at-k.result ≡ relations_of s) =
-        (c.u16_at-m.ensures.0, c.u16_at-k.ensures.0) in
+    (c.u16_at-m.ensures.0, c.u16_at-k.ensures.0) in
     let n = counts in
     let p = c.if-poses-m.true in
     slice_short _ _ _ (poses_short c.args.sheet.now _ _ _ (omega arith))
@@ -27,7 +26,7 @@ returns-then-poses-m c =
 pub returns-then-frames-m : goal.returns-then-frames-m
 returns-then-frames-m c =
     let counts : let s = c.args.sheet.now in (c.u16_at-m.result ≡ bodies_of s) × (c.u16_at-k.result ≡ relations_of s) =
-        (c.u16_at-m.ensures.0, c.u16_at-k.ensures.0) in
+    (c.u16_at-m.ensures.0, c.u16_at-k.ensures.0) in
     let n = counts in
     let p = c.if-poses-m.false in
     let f = c.if-frames-m.true in
@@ -36,7 +35,7 @@ returns-then-frames-m c =
 pub returns-then-errors-k : goal.returns-then-errors-k
 returns-then-errors-k c =
     let counts : let s = c.args.sheet.now in (c.u16_at-m.result ≡ bodies_of s) × (c.u16_at-k.result ≡ relations_of s) =
-        (c.u16_at-m.ensures.0, c.u16_at-k.ensures.0) in
+    (c.u16_at-m.ensures.0, c.u16_at-k.ensures.0) in
     let n = counts in
     let p = c.if-poses-m.false in
     let f = c.if-frames-m.false in
@@ -46,9 +45,9 @@ returns-then-errors-k c =
 pub returns-then-scratch-solve_scratch : goal.returns-then-scratch-solve_scratch
 returns-then-scratch-solve_scratch c =
     let counts : let s = c.args.sheet.now in (c.u16_at-m.result ≡ bodies_of s) × (c.u16_at-k.result ≡ relations_of s) =
-        (c.u16_at-m.ensures.0, c.u16_at-k.ensures.0) in
+    (c.u16_at-m.ensures.0, c.u16_at-k.ensures.0) in
     let long : let g = c.args in solve_long g.sheet.now g.poses g.frames g.errors ≡ true =
-        let n = counts in
+    let n = counts in
     let p = c.if-poses-m.false in
     let f = c.if-frames-m.false in
     let e = c.if-errors-k.false in
@@ -58,9 +57,9 @@ returns-then-scratch-solve_scratch c =
 pub returns : goal.returns
 returns c =
     let counts : let s = c.args.sheet.now in (c.u16_at-m.result ≡ bodies_of s) × (c.u16_at-k.result ≡ relations_of s) =
-        (c.u16_at-m.ensures.0, c.u16_at-k.ensures.0) in
+    (c.u16_at-m.ensures.0, c.u16_at-k.ensures.0) in
     let long : let g = c.args in solve_long g.sheet.now g.poses g.frames g.errors ≡ true =
-        let n = counts in
+    let n = counts in
     let p = c.if-poses-m.false in
     let f = c.if-frames-m.false in
     let e = c.if-errors-k.false in

@@ -1,8 +1,5 @@
 -- `refusals::lent::parameters_fault` meets its contract: a test that fails makes the definition's range fail, and where none fails all of it holds. Assumes nothing.
-use mathlib.Core.Path.{◌≡◌}
-use borrow.Author.Tests.{le-leb, lt-leb, not-true, not-false}
-use borrow.Author.Rules.{rules}
-use Rattle.scene.specs.Scene.{parameters_of}
+use borrow.Author.Tests.{le-leb, lt-leb}
 use Rattle.scene.specs.Solve.{in_range}
 use Rattle.refusals.proofs.lent.parameters_fault.Goals as goal
 

@@ -1,6 +1,5 @@
 -- `refusals::lent::solve_fault`: a fault of the sheet, the drag or what is chosen comes first; with none, the number is that of what is lent. The two are the parts of the
 -- definition (`solve_parts_lem`). Assumes nothing.
-use borrow.Author.Rules.{rules}
 use Rattle.format.proofs.RefusalLaws.{first, later}
 use Rattle.refusals.proofs.LentLaws.{call_sheet, solve_parts_lem}
 use Rattle.refusals.proofs.lent.solve_fault.Goals as goal

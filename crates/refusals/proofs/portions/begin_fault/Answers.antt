@@ -1,7 +1,6 @@
 -- `refusals::portions::begin_fault`: a fault of the sheet, the drag or what is chosen comes first; with none, the number is that of the tests from 16 on, where no counts
 -- are handed over. The two are the parts of the definition (`rounds_parts`). Assumes nothing.
 use mathlib.Core.Bool.{true}
-use borrow.Author.Rules.{rules}
 use Rattle.format.proofs.RefusalLaws.{first, later}
 use Rattle.refusals.proofs.LentLaws.{call_sheet}
 use Rattle.refusals.proofs.PortionLaws.{rounds_parts}

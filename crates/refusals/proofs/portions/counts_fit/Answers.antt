@@ -1,6 +1,5 @@
 -- `refusals::portions::counts_fit`: the scene's counts are those of the definition (`row_count`, `unknown_count`), and the two comparisons are the definition's, the second
 -- asked where the first holds (`same_unknowns`, `other_unknowns`). Assumes nothing.
-use borrow.Author.Rules.{rules}
 use Rattle.refusals.proofs.FigureLaws.{row_count, unknown_count}
 use Rattle.refusals.proofs.PortionLaws.{same_unknowns, other_unknowns}
 use Rattle.refusals.proofs.portions.counts_fit.Goals as goal

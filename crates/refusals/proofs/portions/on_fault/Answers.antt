@@ -1,6 +1,5 @@
 -- `refusals::portions::on_fault`: a fault of the sheet, the drag or what is chosen comes first; with none, the number is that of the tests from 16 on, by whether the counts
 -- are the sheet's. The two are the parts of the definition (`rounds_parts`). Assumes nothing.
-use borrow.Author.Rules.{rules}
 use Rattle.format.proofs.RefusalLaws.{first, later}
 use Rattle.refusals.proofs.LentLaws.{call_sheet}
 use Rattle.refusals.proofs.PortionLaws.{rounds_parts}

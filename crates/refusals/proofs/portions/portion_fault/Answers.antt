@@ -1,7 +1,5 @@
 -- `refusals::portions::portion_fault`: the tests in their order, each end a law by what the code has compared (`portion_none`, `portion_over`, `counts_wrong`,
 -- `state_short`, `state_long`). Assumes nothing.
-use borrow.Author.Rules.{rules}
-use borrow.Author.Tests.{not-true, not-false}
 use Rattle.refusals.proofs.PortionLaws.{portion_none, portion_over, counts_wrong, state_short, state_long}
 use Rattle.refusals.proofs.portions.portion_fault.Goals as goal
 

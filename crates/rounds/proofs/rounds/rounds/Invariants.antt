@@ -1,12 +1,8 @@
 -- `rounds::rounds::rounds`. The invariant: the rounds that are left come to what all come to, and the scratch that is not theirs is as it was. A round that ends the loop,
 -- within the tolerance or not better, is the definition's last; the measure is the rounds to come. Assumes nothing.
-use mathlib.Core.Path.{ap, ◌∙◌}
 use Prim.Native.Nat.{◌-◌, ◌≤◌}
-use native.Mathlib.Omega.{arith}
-use Rattle.least_squares.specs.Lm.{all_finite}
 use Rattle.scene.specs.Scene.{scene_of}
-use Rattle.rounds.proofs.RoundLaws.{arranged_same}
-use Rattle.rounds.proofs.RunLaws.{Going, going_start, going_in, going_stop, going_on, going_end}
+use Rattle.rounds.proofs.RunLaws.{Going}
 use Rattle.rounds.proofs.rounds.rounds.Given as goal
 
 abbrev pub invariant-loop-i : goal.invariant-loop-i

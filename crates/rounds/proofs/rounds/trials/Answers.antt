@@ -1,9 +1,8 @@
 -- `rounds::rounds::trials` meets its contract. The invariant: the trials that are left come to what all come to, and the scratch that they read is as it was. The
 -- measure is the trials to come. Assumes nothing.
-use Prim.Native.Nat.{◌-◌, ◌≤◌}
 use native.Mathlib.Omega.{arith}
 use Rattle.scene.specs.Scene.{scene_of}
-use Rattle.rounds.proofs.RoundLaws.{arranged_same, Trying, trying_start, trying_better, trying_worse, trying_end}
+use Rattle.rounds.proofs.RoundLaws.{arranged_same, trying_start, trying_better, trying_worse, trying_end}
 use Rattle.rounds.proofs.rounds.trials.Goals as goal
 
 pub loop-i-init : goal.loop-i-init

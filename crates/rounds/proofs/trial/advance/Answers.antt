@@ -1,7 +1,6 @@
 -- `rounds::trial::advance` meets its contract: the unknowns are written at `next` and their rows at `ahead`, behind them, so those unknowns stand and the rows are
 -- theirs; nothing before `next` has changed, and `squares` promises the sum (`advanced`). Assumes nothing.
 use native.Mathlib.Omega.{arith}
-use borrow.Author.Rules.{rules}
 use Rattle.scene.specs.Scene.{scene_of}
 use Rattle.rounds.proofs.TrialLaws.{advanced}
 use Rattle.rounds.proofs.trial.advance.Goals as goal

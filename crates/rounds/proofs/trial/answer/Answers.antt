@@ -3,7 +3,6 @@
 use mathlib.Core.Path.{◌∙◌}
 use Prim.Native.Nat.{◌≤◌}
 use native.Mathlib.Omega.{arith}
-use borrow.Author.Rules.{rules}
 use lib.ListN.{length}
 use Rattle.least_squares.proofs.MemoryLaws.{put_tail}
 use Rattle.rounds.proofs.TrialLaws.{rest_lent, answer_is}

@@ -1,7 +1,6 @@
 -- `writing::bytes::put_byte` meets its contract: one byte is set, and the place behind it is the next (`put_one`). Assumes nothing.
 use mathlib.Core.Path.{refl}
 use native.Mathlib.Omega.{arith}
-use borrow.Author.Rules.{rules}
 use Rattle.writing.proofs.PutLaws.{put_one}
 use Rattle.writing.proofs.bytes.put_byte.Goals as goal
 

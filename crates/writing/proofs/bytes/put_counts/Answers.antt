@@ -1,5 +1,4 @@
 -- `writing::bytes::put_counts` puts `counts_bytes`, number by number (`put_then`). Assumes nothing.
-use borrow.Author.Rules.{rules}
 use native.Mathlib.Omega.{arith}
 use Rattle.writing.specs.Writing.{counts_bytes}
 use Rattle.writing.proofs.PutLaws.{put_then}
@@ -7,11 +6,10 @@ use Rattle.writing.proofs.bytes.put_counts.Goals as goal
 
 pub returns : goal.returns
 unfolding counts_bytes
-returns c =
-    (
-      omega arith,
-      put_then _ _ _ _ _ _ _ _ c.put_number-a.ensures.1
-          (put_then _ _ _ _ _ _ _ _ c.put_number-b.ensures.1
-          (put_then _ _ _ _ _ _ _ _ c.put_number-c.ensures.1
-          c.put_number.ensures.1)),
-    )
+returns c = (
+  omega arith,
+  put_then _ _ _ _ _ _ _ _ c.put_number-a.ensures.1
+      (put_then _ _ _ _ _ _ _ _ c.put_number-b.ensures.1
+      (put_then _ _ _ _ _ _ _ _ c.put_number-c.ensures.1
+      c.put_number.ensures.1)),
+)

@@ -1,5 +1,4 @@
 -- `writing::bytes::put_end` puts `end_bytes`: two bytes, a word, four bytes that are 0, eight doubles (`put_then`). Assumes nothing.
-use borrow.Author.Rules.{rules}
 use native.Mathlib.Omega.{arith}
 use Rattle.writing.specs.Writing.{end_bytes}
 use Rattle.writing.proofs.PutLaws.{put_then}
@@ -10,12 +9,11 @@ overflow_cast-words c = omega (arith, c.shared_slice_known-6-1.given c.args.w)
 
 pub returns : goal.returns
 unfolding end_bytes
-returns c =
-    (
-      omega arith,
-      put_then _ _ _ _ _ _ _ _ c.put_byte-c.ensures.1
-          (put_then _ _ _ _ _ _ _ _ c.put_byte-d.ensures.1
-          (put_then _ _ _ _ _ _ _ _ c.put_number-e.ensures.1
-          (put_then _ _ _ _ _ _ _ _ c.put_number-f.ensures.1
-          c.put_doubles.ensures.1))),
-    )
+returns c = (
+  omega arith,
+  put_then _ _ _ _ _ _ _ _ c.put_byte-c.ensures.1
+      (put_then _ _ _ _ _ _ _ _ c.put_byte-d.ensures.1
+      (put_then _ _ _ _ _ _ _ _ c.put_number-e.ensures.1
+      (put_then _ _ _ _ _ _ _ _ c.put_number-f.ensures.1
+      c.put_doubles.ensures.1))),
+)

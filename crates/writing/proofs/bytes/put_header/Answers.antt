@@ -1,5 +1,4 @@
 -- `writing::bytes::put_header` puts `header_bytes`: the counts, then the offsets (`put_then`). Assumes nothing.
-use borrow.Author.Rules.{rules}
 use native.Mathlib.Omega.{arith}
 use Rattle.writing.specs.Writing.{header_bytes}
 use Rattle.writing.proofs.PutLaws.{put_then}
@@ -7,9 +6,8 @@ use Rattle.writing.proofs.bytes.put_header.Goals as goal
 
 pub returns : goal.returns
 unfolding header_bytes
-returns c =
-    (
-      omega arith,
-      put_then _ _ _ _ _ _ _ _ c.put_counts-a.ensures.1
-          c.put_offsets.ensures.1,
-    )
+returns c = (
+  omega arith,
+  put_then _ _ _ _ _ _ _ _ c.put_counts-a.ensures.1
+      c.put_offsets.ensures.1,
+)

@@ -1,5 +1,4 @@
 -- `writing::bytes::put_law` puts `law_bytes`: three bytes, one that is 0, and two words (`put_then`). Assumes nothing.
-use borrow.Author.Rules.{rules}
 use native.Mathlib.Omega.{arith}
 use Rattle.writing.specs.Writing.{law_bytes}
 use Rattle.writing.proofs.PutLaws.{put_then}
@@ -13,13 +12,12 @@ overflow_cast-words-2 c = omega (arith, c.shared_slice_known-7-1.given 1)
 
 pub returns : goal.returns
 unfolding law_bytes
-returns c =
-    (
-      omega arith,
-      put_then _ _ _ _ _ _ _ _ c.put_byte-a.ensures.1
-          (put_then _ _ _ _ _ _ _ _ c.put_byte-b.ensures.1
-          (put_then _ _ _ _ _ _ _ _ c.put_byte-c.ensures.1
-          (put_then _ _ _ _ _ _ _ _ c.put_byte-d.ensures.1
-          (put_then _ _ _ _ _ _ _ _ c.put_number-e.ensures.1
-          c.put_number.ensures.1)))),
-    )
+returns c = (
+  omega arith,
+  put_then _ _ _ _ _ _ _ _ c.put_byte-a.ensures.1
+      (put_then _ _ _ _ _ _ _ _ c.put_byte-b.ensures.1
+      (put_then _ _ _ _ _ _ _ _ c.put_byte-c.ensures.1
+      (put_then _ _ _ _ _ _ _ _ c.put_byte-d.ensures.1
+      (put_then _ _ _ _ _ _ _ _ c.put_number-e.ensures.1
+      c.put_number.ensures.1)))),
+)

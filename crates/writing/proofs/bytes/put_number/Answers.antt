@@ -1,11 +1,7 @@
 -- `writing::bytes::put_number` meets its contract. The invariant: the bytes so far stand before those of `rest` that are to come. The measure is how many are left.
 -- Assumes nothing.
-use mathlib.Core.Path.{◌≡◌}
-use Prim.Native.Nat.{◌+◌}
 use native.Mathlib.Omega.{arith}
-use borrow.Author.Rules.{rules}
-use lib.ListN.{length}
-use Rattle.writing.proofs.PutLaws.{Begun, begun_start, begun_step, begun_end, put_size}
+use Rattle.writing.proofs.PutLaws.{begun_start, begun_step, begun_end, put_size}
 use Rattle.writing.proofs.bytes.put_number.Goals as goal
 
 pub loop-left-init : goal.loop-left-init

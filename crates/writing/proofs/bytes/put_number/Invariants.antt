@@ -2,10 +2,8 @@
 -- Assumes nothing.
 use mathlib.Core.Path.{◌≡◌}
 use Prim.Native.Nat.{◌+◌}
-use native.Mathlib.Omega.{arith}
-use borrow.Author.Rules.{rules}
 use lib.ListN.{length}
-use Rattle.writing.proofs.PutLaws.{Begun, begun_start, begun_step, begun_end, put_size}
+use Rattle.writing.proofs.PutLaws.{Begun}
 use Rattle.writing.proofs.bytes.put_number.Given as goal
 
 abbrev pub invariant-loop-left : goal.invariant-loop-left

@@ -1,5 +1,4 @@
 -- `writing::bytes::put_rel` puts `rel_bytes`: the law, five doubles, the three ends (`put_then`). Assumes nothing.
-use borrow.Author.Rules.{rules}
 use mathlib.Core.List.{◌++◌}
 use native.Mathlib.Omega.{arith}
 use Rattle.writing.specs.Bytes.{doubles_bytes}

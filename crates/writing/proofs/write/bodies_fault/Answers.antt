@@ -1,10 +1,7 @@
 -- `writing::write::bodies_fault` meets its contract. The invariant: the number held is the first fault among the bodies passed (`first_more`). The measure is those to come. Assumes nothing.
 use mathlib.Core.Path.{◌≡◌, refl, ◌∙◌}
-use Prim.Native.Nat.{◌-◌, ◌≤◌}
 use native.Mathlib.Omega.{arith}
-use borrow.Author.Rules.{rules}
-use Rattle.writing.specs.Writing.{body_parts_fault, first_fault}
-use Rattle.writing.specs.Lent.{lent_body}
+use Rattle.writing.specs.Writing.{first_fault}
 use Rattle.writing.proofs.LentLaws.{first_more}
 use Rattle.writing.proofs.write.bodies_fault.Goals as goal
 

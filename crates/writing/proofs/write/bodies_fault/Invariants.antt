@@ -1,11 +1,8 @@
 -- `writing::write::bodies_fault` meets its contract. The invariant: the number held is the first fault among the bodies passed (`first_more`). The measure is those to come. Assumes nothing.
-use mathlib.Core.Path.{◌≡◌, refl, ◌∙◌}
+use mathlib.Core.Path.{◌≡◌}
 use Prim.Native.Nat.{◌-◌, ◌≤◌}
-use native.Mathlib.Omega.{arith}
-use borrow.Author.Rules.{rules}
 use Rattle.writing.specs.Writing.{body_parts_fault, first_fault}
 use Rattle.writing.specs.Lent.{lent_body}
-use Rattle.writing.proofs.LentLaws.{first_more}
 use Rattle.writing.proofs.write.bodies_fault.Given as goal
 
 abbrev pub invariant-loop-i : goal.invariant-loop-i

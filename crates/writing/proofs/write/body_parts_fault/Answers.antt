@@ -5,7 +5,6 @@ use Prim.Native.Nat.{ℕ}
 use native.Mathlib.Omega.{arith}
 use Rattle.format.specs.Faults.{body_fault}
 use Rattle.writing.proofs.LentLaws.{put_all}
-use borrow.Author.Rules.{rules}
 use Rattle.writing.proofs.write.body_parts_fault.Goals as goal
 
 pub returns : goal.returns

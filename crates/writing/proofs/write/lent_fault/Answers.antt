@@ -1,5 +1,4 @@
 -- `writing::write::lent_fault` meets its contract: on either way out the test is known, and the definition computes by it to the same number. Assumes nothing.
-use borrow.Author.Rules.{rules}
 use Rattle.writing.proofs.write.lent_fault.Goals as goal
 
 pub returns-then-m-k : goal.returns-then-m-k

@@ -3,7 +3,6 @@ use mathlib.Core.Path.{refl, ◌∙◌}
 use Prim.Native.Nat.{◌+◌, ◌*◌}
 use Rattle.writing.specs.Writing.{rel_parts_fault}
 use Rattle.writing.proofs.LentLaws.{part_is}
-use borrow.Author.Rules.{rules}
 use Rattle.writing.proofs.write.lent_rel_fault.Goals as goal
 
 pub returns : goal.returns

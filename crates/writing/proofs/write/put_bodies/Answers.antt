@@ -1,12 +1,6 @@
 -- `writing::write::put_bodies` meets its contract. The invariant: the records of the bodies passed stand from `at` on. The measure is those to come. Assumes nothing.
 use mathlib.Core.Path.{◌≡◌}
-use Prim.Native.Nat.{◌+◌, ◌*◌, ◌-◌, ◌≤◌}
 use native.Mathlib.Omega.{arith}
-use borrow.Author.Rules.{rules}
-use lib.ListN.{length}
-use Rattle.writing.specs.Bytes.{joined, Put}
-use Rattle.writing.specs.Writing.{body_bytes}
-use Rattle.writing.specs.Lent.{lent_body}
 use Rattle.writing.proofs.PutLaws.{put_size, joined_start, joined_step}
 use Rattle.writing.proofs.write.put_bodies.Goals as goal
 

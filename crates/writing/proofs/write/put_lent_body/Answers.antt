@@ -4,7 +4,6 @@ use Prim.Native.Nat.{◌*◌}
 use Rattle.writing.specs.Writing.{body_bytes}
 use Rattle.writing.proofs.PutLaws.{put_as}
 use Rattle.writing.proofs.LentLaws.{part_is}
-use borrow.Author.Rules.{rules}
 use Rattle.writing.proofs.write.put_lent_body.Goals as goal
 
 pub returns : goal.returns

@@ -1,13 +1,10 @@
 -- `writing::write::put_rels` meets its contract. The invariant: the records of the relations passed stand from `at` on. The measure is those to come. Assumes nothing.
 use mathlib.Core.Path.{◌≡◌}
 use Prim.Native.Nat.{◌+◌, ◌*◌, ◌-◌, ◌≤◌}
-use native.Mathlib.Omega.{arith}
-use borrow.Author.Rules.{rules}
 use lib.ListN.{length}
 use Rattle.writing.specs.Bytes.{joined, Put}
 use Rattle.writing.specs.Writing.{rel_bytes}
 use Rattle.writing.specs.Lent.{lent_rel}
-use Rattle.writing.proofs.PutLaws.{put_size, joined_start, joined_step}
 use Rattle.writing.proofs.write.put_rels.Given as goal
 
 abbrev pub invariant-loop-j : goal.invariant-loop-j

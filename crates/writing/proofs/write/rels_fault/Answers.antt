@@ -1,10 +1,7 @@
 -- `writing::write::rels_fault` meets its contract. The invariant: the number held is the first fault among the relations passed (`first_more`). The measure is those to come. Assumes nothing.
 use mathlib.Core.Path.{◌≡◌, refl, ◌∙◌}
-use Prim.Native.Nat.{◌-◌, ◌≤◌}
 use native.Mathlib.Omega.{arith}
-use borrow.Author.Rules.{rules}
-use Rattle.writing.specs.Writing.{rel_parts_fault, first_fault}
-use Rattle.writing.specs.Lent.{lent_rel}
+use Rattle.writing.specs.Writing.{first_fault}
 use Rattle.writing.proofs.LentLaws.{first_more}
 use Rattle.writing.proofs.write.rels_fault.Goals as goal
 

@@ -1,11 +1,8 @@
 -- `writing::write::rels_fault` meets its contract. The invariant: the number held is the first fault among the relations passed (`first_more`). The measure is those to come. Assumes nothing.
-use mathlib.Core.Path.{◌≡◌, refl, ◌∙◌}
+use mathlib.Core.Path.{◌≡◌}
 use Prim.Native.Nat.{◌-◌, ◌≤◌}
-use native.Mathlib.Omega.{arith}
-use borrow.Author.Rules.{rules}
 use Rattle.writing.specs.Writing.{rel_parts_fault, first_fault}
 use Rattle.writing.specs.Lent.{lent_rel}
-use Rattle.writing.proofs.LentLaws.{first_more}
 use Rattle.writing.proofs.write.rels_fault.Given as goal
 
 abbrev pub invariant-loop-j : goal.invariant-loop-j

@@ -1,5 +1,4 @@
 -- `writing::write::room_fault` meets its contract: on either way out the test is known, and the definition computes by it to the same number. Assumes nothing.
-use borrow.Author.Rules.{rules}
 use borrow.Author.Tests.{le-leb, lt-leb}
 use Rattle.writing.proofs.write.room_fault.Goals as goal
 

@@ -2,23 +2,7 @@
 use native.Mathlib.Omega.{arith}
 use Rattle.writing.specs.Writing.{AllBytes, AllWords, AllDoubles}
 use Rattle.writing.proofs.LentLaws.{accepted, written, refused}
-use borrow.Author.Rules.{rules}
 use Rattle.writing.proofs.write.write.Goals as goal
-
-
-
--- what is lent, and that its elements are numbers of the machine
-abbrev entry : tie.After-write-fault → tie.Start
-entry c = c.before.before.before.before.before
-
-all-bytes : (c : goal.After-write_fault-number) → AllBytes (entry c).args.bytes.now
-all-bytes c i = omega (arith, c.shared_slice_known-1.given i)
-
-all_words : (c : goal.After-write_fault-number) → AllWords (entry c).args.words.now
-all_words c i = omega (arith, c.shared_slice_known-2-1.given i)
-
-all-doubles : (c : goal.After-write_fault-number) → AllDoubles (entry c).args.numbers.now
-all-doubles c i = c.shared_slice_known-3-1.given i
 
 pub put_sheet-requires : goal.put_sheet-requires
 put_sheet-requires c =
@@ -28,12 +12,18 @@ put_sheet-requires c =
 
 pub returns-then-number-eq0 : goal.returns-then-number-eq0
 returns-then-number-eq0 c =
-    let o = entry c.before.before.before.before.before in
-    written o.args.m o.args.k o.args.bytes.now o.args.words.now o.args.numbers.now (all-bytes c.before.before.before.before.before) (all_words c.before.before.before.before.before) (all-doubles c.before.before.before.before.before) _ _ _ _
+    let o = c.args in
+    let bytes : AllBytes o.bytes.now = λ i. omega (arith, c.type_inv.bytes i) in
+    let words : AllWords o.words.now = λ i. omega (arith, c.type_inv.words i) in
+    let numbers : AllDoubles o.numbers.now = λ i. c.type_inv.numbers i in
+    written o.m o.k o.bytes.now o.words.now o.numbers.now bytes words numbers _ _ _ _
     c.write_fault-number.ensures c.if-number-eq0.true c.put_sheet.ensures.0 c.put_sheet.ensures.1
 
 pub returns : goal.returns
 returns c =
-    let o = entry c.before in
-    refused o.args.m o.args.k o.args.bytes.now o.args.words.now o.args.numbers.now (all-bytes c.before) (all_words c.before) (all-doubles c.before) _ _
+    let o = c.args in
+    let bytes : AllBytes o.bytes.now = λ i. omega (arith, c.type_inv.bytes i) in
+    let words : AllWords o.words.now = λ i. omega (arith, c.type_inv.words i) in
+    let numbers : AllDoubles o.numbers.now = λ i. c.type_inv.numbers i in
+    refused o.m o.k o.bytes.now o.words.now o.numbers.now bytes words numbers _ _
     c.write_fault-number.ensures c.if-number-eq0.false

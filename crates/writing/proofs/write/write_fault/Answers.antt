@@ -2,14 +2,17 @@
 use mathlib.Core.Path.{sym, ◌∙◌}
 use Rattle.writing.proofs.SheetLaws.{counts_pass}
 use Rattle.writing.proofs.LentLaws.{room_then, counts_stop}
-use borrow.Author.Rules.{rules}
 use Rattle.writing.proofs.write.write_fault.Goals as goal
 
 pub scene_fault-requires : goal.scene_fault-requires
-scene_fault-requires c = counts_pass _ _ (sym c.counts_fault-counts.ensures ∙ c.if-counts-eq0.true)
+scene_fault-requires c =
+    let h = counts_pass _ _ (sym c.counts_fault-counts.ensures ∙ c.if-counts-eq0.true) in
+    record { m_bound = h.0; k_bound = h.1 }
 
 pub room_fault-requires : goal.room_fault-requires
-room_fault-requires c = counts_pass _ _ (sym c.counts_fault-counts.ensures ∙ c.if-counts-eq0.true)
+room_fault-requires c =
+    let h = counts_pass _ _ (sym c.counts_fault-counts.ensures ∙ c.if-counts-eq0.true) in
+    record { m_bound = h.0; k_bound = h.1 }
 
 pub returns-then-counts-eq0 : goal.returns-then-counts-eq0
 returns-then-counts-eq0 c = room_then _ _ _ _ _ _ _ _ _ _ c.counts_fault-counts.ensures c.if-counts-eq0.true c.scene_fault.ensures c.room_fault.ensures c.or_else.ensures

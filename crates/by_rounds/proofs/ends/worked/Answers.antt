@@ -1,0 +1,10 @@
+-- `by_rounds::ends::worked`: `rows_at` writes the rows at `rows`, and what stands before them is as it was (`worked_is`). Assumes nothing.
+use Rattle.scene.specs.Scene.{scene_of}
+use Rattle.by_rounds.proofs.EndLaws.{worked_is}
+use borrow.Author.Rules.{rules}
+use Rattle.by_rounds.proofs.ends.worked.Goals as goal
+
+pub returns : goal.returns
+returns c =
+    let g = c.args in
+    worked_is (scene_of g.sheet.now g.scene) g.scene g.p g.s.now _ c.requires.arranged c.rows_at.ensures g.g

@@ -1,0 +1,71 @@
+-- `by_rounds::portion::begin`: weights, zeros for the unknowns and for those of the first run, and their rows (`ready`); judged, that is the definition's start (`started`), from
+-- which the rounds go on. Assumes nothing.
+use mathlib.Core.Path.{ap, ◌∙◌}
+use Rattle.scene.specs.Scene.{scene_of, parameters_of}
+use Rattle.relations.specs.Model.{body_number}
+use Rattle.least_squares.specs.Lm.{list_of, all_finite}
+use Rattle.placement.proofs.SolveLaws.{weights_finite}
+use Rattle.scene.specs.Solve.{unknowns, start_at}
+use Rattle.portions.specs.Portions.{fresh, judged, start, inverse_weights}
+use Rattle.portions.proofs.PortionLaws.{counts, start_settled}
+use Rattle.rounds.proofs.RoundLaws.{arranged_same}
+use Rattle.by_rounds.proofs.EndLaws.{none_made}
+use Rattle.by_rounds.proofs.GoLaws.{Ready, begun_is, ready_then, ready_settled, ready_gone, begin_is}
+use borrow.Author.Rules.{rules}
+use Rattle.by_rounds.proofs.portion.begin.Goals as goal
+
+pub worked-fresh-requires : goal.worked-fresh-requires
+worked-fresh-requires c = record { laid = c.requires.laid; arranged = arranged_same (c.put_start-2.ensures.kept.size ∙ c.put_start.ensures.kept.size ∙ c.inverse_weights.ensures.kept.size) c.requires.arranged }
+
+pub judged-g-requires : goal.judged-g-requires
+judged-g-requires c =
+    let ready : let g = c.args in let sc = scene_of g.sheet.now g.scene in let zeros = list_of start_at (unknowns sc) in Ready g.scene g.p g.s.now c.worked-fresh.new.s c.worked-fresh.result (fresh sc 1 zeros zeros) (inverse_weights sc (parameters_of g.q) (body_number g.drag)) =
+        let g = c.args in
+    begun_is (scene_of g.sheet.now g.scene) g.scene g.p (parameters_of g.q) (body_number g.drag) g.s.now _ _ _ _ _ c.requires.laid.unknown_count c.requires.arranged c.inverse_weights.ensures c.put_start.ensures
+    c.put_start-2.ensures
+    c.worked-fresh.ensures in
+    record { laid = c.requires.laid; arranged = arranged_same (ready).size c.requires.arranged }
+
+pub go-requires : goal.go-requires
+go-requires c =
+    let ready : let g = c.args in let sc = scene_of g.sheet.now g.scene in let zeros = list_of start_at (unknowns sc) in Ready g.scene g.p g.s.now c.worked-fresh.new.s c.worked-fresh.result (fresh sc 1 zeros zeros) (inverse_weights sc (parameters_of g.q) (body_number g.drag)) =
+        let g = c.args in
+    begun_is (scene_of g.sheet.now g.scene) g.scene g.p (parameters_of g.q) (body_number g.drag) g.s.now _ _ _ _ _ c.requires.laid.unknown_count c.requires.arranged c.inverse_weights.ensures c.put_start.ensures
+    c.put_start-2.ensures
+    c.worked-fresh.ensures in
+    let started : let g = c.args in let sc = scene_of g.sheet.now g.scene in Ready g.scene g.p g.s.now c.judged-g.new.s c.judged-g.result (start sc (parameters_of g.q)) (inverse_weights sc (parameters_of g.q) (body_number g.drag)) =
+        let g = c.args in
+    let sc = scene_of g.sheet.now g.scene in
+    let e = c.no_round-stop.ensures ∙ none_made g.sheet.now g.scene (parameters_of g.q) c.requires.laid in
+    rw e at (ready_then g.scene g.p g.s.now _ _ _ _ _ _ (judged sc (parameters_of g.q) c.no_round-stop.result) (ready) c.judged-g.ensures) in
+    let g = c.args in
+    record { laid = c.requires.laid; arranged = arranged_same (started).size c.requires.arranged; n_bound = c.requires.n_bound; q_value = c.requires.q_value; settled = ready_settled (scene_of g.sheet.now g.scene) g.scene g.p (parameters_of g.q) g.s.now _ _ _ _ (started) (start_settled (scene_of g.sheet.now g.scene) (parameters_of g.q) (counts (parameters_of g.q) c.requires.q_value)); s_value = ap all_finite (started).weights ∙ weights_finite (scene_of g.sheet.now g.scene) (parameters_of g.q) (body_number g.drag) }
+
+pub shape_of-s : goal.shape_of-s
+shape_of-s c =
+    let ready : let g = c.args in let sc = scene_of g.sheet.now g.scene in let zeros = list_of start_at (unknowns sc) in Ready g.scene g.p g.s.now c.worked-fresh.new.s c.worked-fresh.result (fresh sc 1 zeros zeros) (inverse_weights sc (parameters_of g.q) (body_number g.drag)) =
+        let g = c.args in
+    begun_is (scene_of g.sheet.now g.scene) g.scene g.p (parameters_of g.q) (body_number g.drag) g.s.now _ _ _ _ _ c.requires.laid.unknown_count c.requires.arranged c.inverse_weights.ensures c.put_start.ensures
+    c.put_start-2.ensures
+    c.worked-fresh.ensures in
+    let started : let g = c.args in let sc = scene_of g.sheet.now g.scene in Ready g.scene g.p g.s.now c.judged-g.new.s c.judged-g.result (start sc (parameters_of g.q)) (inverse_weights sc (parameters_of g.q) (body_number g.drag)) =
+        let g = c.args in
+    let sc = scene_of g.sheet.now g.scene in
+    let e = c.no_round-stop.ensures ∙ none_made g.sheet.now g.scene (parameters_of g.q) c.requires.laid in
+    rw e at (ready_then g.scene g.p g.s.now _ _ _ _ _ _ (judged sc (parameters_of g.q) c.no_round-stop.result) (ready) c.judged-g.ensures) in
+    c.go.ensures.went.size ∙ (started).size
+
+pub returns : goal.returns
+returns c =
+    let ready : let g = c.args in let sc = scene_of g.sheet.now g.scene in let zeros = list_of start_at (unknowns sc) in Ready g.scene g.p g.s.now c.worked-fresh.new.s c.worked-fresh.result (fresh sc 1 zeros zeros) (inverse_weights sc (parameters_of g.q) (body_number g.drag)) =
+        let g = c.args in
+    begun_is (scene_of g.sheet.now g.scene) g.scene g.p (parameters_of g.q) (body_number g.drag) g.s.now _ _ _ _ _ c.requires.laid.unknown_count c.requires.arranged c.inverse_weights.ensures c.put_start.ensures
+    c.put_start-2.ensures
+    c.worked-fresh.ensures in
+    let started : let g = c.args in let sc = scene_of g.sheet.now g.scene in Ready g.scene g.p g.s.now c.judged-g.new.s c.judged-g.result (start sc (parameters_of g.q)) (inverse_weights sc (parameters_of g.q) (body_number g.drag)) =
+        let g = c.args in
+    let sc = scene_of g.sheet.now g.scene in
+    let e = c.no_round-stop.ensures ∙ none_made g.sheet.now g.scene (parameters_of g.q) c.requires.laid in
+    rw e at (ready_then g.scene g.p g.s.now _ _ _ _ _ _ (judged sc (parameters_of g.q) c.no_round-stop.result) (ready) c.judged-g.ensures) in
+    let g = c.args in
+    ready_gone (scene_of g.sheet.now g.scene) g.scene g.p (parameters_of g.q) g.s.now _ _ _ _ _ _ _ g.portion (started) c.go.ensures (begin_is (scene_of g.sheet.now g.scene) (parameters_of g.q) (body_number g.drag) g.portion)

@@ -1,0 +1,40 @@
+-- `freedom::total::unnamed` meets its contract. The loop's invariant: those counted and those to come are all. Assumes nothing.
+use Rattle.freedom.proofs.TotalLaws.{unnamed_step, unnamed_done, unnamed_small}
+use mathlib.Core.Path.{◌≡◌, ap}
+use native.Mathlib.Omega.{arith}
+use lib.ListN.{get_or}
+use Rattle.relations.specs.Model.{Body}
+use Rattle.scene.specs.Scene.{first_unknown}
+use Rattle.freedom.specs.Total.{unnamed_one}
+use Rattle.freedom.proofs.total.unnamed.Goals as goal
+
+pub loop-i-init : goal.loop-i-init
+loop-i-init c = (omega arith, omega arith, omega arith)
+
+pub overflow_add-count : goal.overflow_add-count
+overflow_add-count c =
+    let g = c.args in
+    let l = c.loop-i in
+    let e = c.unnamed_one-count.ensures in
+    let small = unnamed_small c.body_at-b.result.fixed (first_unknown (get_or g.scene.index l.i 0)) in
+    let b = c.requires.body_count in
+    omega arith
+
+pub loop-i-preserved : goal.loop-i-preserved
+loop-i-preserved c =
+    let g = c.args in
+    let l = c.loop-i in
+    let e = c.unnamed_one-count.ensures in
+    let small = unnamed_small c.body_at-b.result.fixed (first_unknown (get_or g.scene.index l.i 0)) in
+    let next = unnamed_step g.sheet.now g.scene l.i c.requires (omega arith) in
+    let f = ap (λ (b : Body). unnamed_one b.fixed (first_unknown (get_or g.scene.index l.i 0))) c.body_at-b.ensures in
+    (omega arith, omega arith, omega arith)
+
+pub returns : goal.returns
+returns c =
+    let l = c.loop-i in
+    let g = c.args in
+    let e : l.i ≡ g.scene.m = omega arith in
+    let done = unnamed_done g.sheet.now g.scene l.i e in
+    let b = c.requires.body_count in
+    (omega arith, omega arith)
