@@ -23,7 +23,7 @@ use Rattle.rounds.specs.declared.trial.Tried.{Tried as TriedStruct}
 use Rattle.portions.specs.Portions.{Running, is_running, row_count, fresh, within, judged, judge, one_more, go, rounds_made, start, inverse_weights, begin, on}
 use Rattle.portions.specs.Laws.{Settled}
 use Rattle.portions.proofs.PortionLaws.{counts, or_left, or_right, more_settled, go_stays, go_more, go_none, none_made, made_stays, made_more}
-use Rattle.by_rounds.specs.Running.{running_in, worked, Went, WentBy, Stands, StandsBy}
+use Rattle.by_rounds.specs.Running.{running_in, worked, Went, WentBy, StandsBy}
 use Rattle.by_rounds.specs.declared.ends.Going.{Going as GoingStruct}
 use Rattle.by_rounds.specs.declared.portion.Portion.{Portion as PortionStruct}
 use Rattle.by_rounds.proofs.EndLaws.{at_begin, row_count_is}

@@ -1,6 +1,6 @@
 -- A scene in memory, m bodies and k relations as the solver's structs, in parts and as a sheet. Document 02, 2/14; document 01, "The sheet", for which law and which primitive
 -- uses which field: what is not used is 0. Definitions only.
-use Rattle.std.specs.Prelude.{ℕ, ◌+◌, ◌<◌, ◌≡◌, Bool, true, false, ◌&&◌, ◌||◌, cond, List, [], ◌∷◌, ◌++◌, eqb, ltb, Float}
+use Rattle.std.specs.Prelude.{ℕ, ◌<◌, ◌≡◌, Bool, true, false, ◌&&◌, ◌||◌, cond, List, [], ◌∷◌, ◌++◌, eqb, ltb, Float}
 use Rattle.std.proofs.Math.Option.{Option, none, some}
 use Rattle.numbers.specs.Double.{zero64}
 use Rattle.vectors.specs.Vec.{Vec, zero_v}

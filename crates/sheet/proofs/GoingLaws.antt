@@ -11,7 +11,7 @@ use lib.ListN.{length, drop}
 use lib.Ieee.{Float}
 use Rattle.records.specs.Numbers.{flag_number}
 use Rattle.scene.specs.Scene.{Laid, SceneMade, scene_of, poses_doubles}
-use Rattle.scene.specs.Solve.{Scene, Parameters, in_range, unknowns}
+use Rattle.scene.specs.Solve.{Scene, Parameters, in_range}
 use Rattle.scene.specs.declared.scene.Scene.{Scene as SceneStruct}
 use Rattle.rounds.specs.Parts.{need}
 use Rattle.placement.specs.Answer.{frames_doubles}

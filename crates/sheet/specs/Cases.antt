@@ -8,12 +8,12 @@ use Rattle.numbers.specs.Double.{zero64, one64}
 use Rattle.numbers.specs.MaxAbs.{max_abs}
 use Rattle.arcs.specs.Root.{root}
 use Rattle.arcs.specs.Arcs.{arctangent}
-use Rattle.vectors.specs.Vec.{Vec, zero_v}
+use Rattle.vectors.specs.Vec.{zero_v}
 use Rattle.vectors.specs.Space.{world}
 use Rattle.relations.specs.Geometry.{point}
-use Rattle.relations.specs.Model.{Body, End, Rel, mate}
+use Rattle.relations.specs.Model.{Body, Rel, mate}
 use Rattle.relations.specs.Rows.{wrap, tangent_gap}
-use Rattle.scene.specs.Solve.{Scene, half_size, solve}
+use Rattle.scene.specs.Solve.{half_size, solve}
 use Rattle.body_freedom.specs.Dof.{dof}
 
 -- a number that a definition gives, beside the one that the paper gives

@@ -9,7 +9,6 @@ use Rattle.portions.specs.Portions.{fresh}
 use Rattle.by_rounds.specs.Running.{Went}
 use Rattle.rounds.proofs.RoundLaws.{arranged_same}
 use Rattle.by_rounds.proofs.EndLaws.{turned_is, none_made, retry_near, retry_none, retry_on}
-use borrow.Author.Rules.{rules}
 use Rattle.by_rounds.proofs.ends.begin_retry.Goals as goal
 
 pub worked-g-requires : goal.worked-g-requires
@@ -18,14 +17,14 @@ worked-g-requires c = record { laid = c.requires.laid; arranged = arranged_same 
 pub end_retry-requires : goal.end_retry-requires
 end_retry-requires c =
     let turned : let g = c.args in let sc = scene_of g.sheet.now g.scene in Went g.scene g.p g.s.now c.worked-g.new.s c.worked-g.result (fresh sc 2 (unknowns_in g.scene g.p g.s.now) (list_of slight_turn (unknowns sc))) =
-        let g = c.args in
+    let g = c.args in
     turned_is (scene_of g.sheet.now g.scene) g.scene g.p g.s.now _ _ _ _ c.requires.laid.unknown_count c.requires.arranged c.copy.ensures c.put_turn.ensures c.worked-g.ensures in
     record { laid = c.requires.laid; arranged = arranged_same (turned).size c.requires.arranged }
 
 pub returns-then-near : goal.returns-then-near
 returns-then-near c =
     let turned : let g = c.args in let sc = scene_of g.sheet.now g.scene in Went g.scene g.p g.s.now c.worked-g.new.s c.worked-g.result (fresh sc 2 (unknowns_in g.scene g.p g.s.now) (list_of slight_turn (unknowns sc))) =
-        let g = c.args in
+    let g = c.args in
     turned_is (scene_of g.sheet.now g.scene) g.scene g.p g.s.now _ _ _ _ c.requires.laid.unknown_count c.requires.arranged c.copy.ensures c.put_turn.ensures c.worked-g.ensures in
     let g = c.args in
     retry_near (scene_of g.sheet.now g.scene) (parameters_of g.q) _ g.scene g.p g.s.now _ _ (turned) _ c.within-near.ensures _ _ c.if-near.true c.end_retry.ensures
@@ -33,14 +32,14 @@ returns-then-near c =
 pub end_retry-requires-then-no_round : goal.end_retry-requires-then-no_round
 end_retry-requires-then-no_round c =
     let turned : let g = c.args in let sc = scene_of g.sheet.now g.scene in Went g.scene g.p g.s.now c.worked-g.new.s c.worked-g.result (fresh sc 2 (unknowns_in g.scene g.p g.s.now) (list_of slight_turn (unknowns sc))) =
-        let g = c.args in
+    let g = c.args in
     turned_is (scene_of g.sheet.now g.scene) g.scene g.p g.s.now _ _ _ _ c.requires.laid.unknown_count c.requires.arranged c.copy.ensures c.put_turn.ensures c.worked-g.ensures in
     record { laid = c.requires.laid; arranged = arranged_same (turned).size c.requires.arranged }
 
 pub returns-then-no_round : goal.returns-then-no_round
 returns-then-no_round c =
     let turned : let g = c.args in let sc = scene_of g.sheet.now g.scene in Went g.scene g.p g.s.now c.worked-g.new.s c.worked-g.result (fresh sc 2 (unknowns_in g.scene g.p g.s.now) (list_of slight_turn (unknowns sc))) =
-        let g = c.args in
+    let g = c.args in
     turned_is (scene_of g.sheet.now g.scene) g.scene g.p g.s.now _ _ _ _ c.requires.laid.unknown_count c.requires.arranged c.copy.ensures c.put_turn.ensures c.worked-g.ensures in
     let g = c.args in
     retry_none (scene_of g.sheet.now g.scene) (parameters_of g.q) _ g.scene g.p g.s.now _ _ (turned) _ c.within-near.ensures _ _ c.if-near.false (sym (none_made g.sheet.now g.scene (parameters_of g.q) c.requires.laid) ∙ sym c.no_round.ensures ∙ c.if-no_round.true) c.end_retry-then-no_round.ensures
@@ -48,7 +47,7 @@ returns-then-no_round c =
 pub returns : goal.returns
 returns c =
     let turned : let g = c.args in let sc = scene_of g.sheet.now g.scene in Went g.scene g.p g.s.now c.worked-g.new.s c.worked-g.result (fresh sc 2 (unknowns_in g.scene g.p g.s.now) (list_of slight_turn (unknowns sc))) =
-        let g = c.args in
+    let g = c.args in
     turned_is (scene_of g.sheet.now g.scene) g.scene g.p g.s.now _ _ _ _ c.requires.laid.unknown_count c.requires.arranged c.copy.ensures c.put_turn.ensures c.worked-g.ensures in
     let g = c.args in
     retry_on (scene_of g.sheet.now g.scene) (parameters_of g.q) _ g.scene g.p g.s.now _ _ (turned) _ c.within-near.ensures c.if-near.false (sym (none_made g.sheet.now g.scene (parameters_of g.q) c.requires.laid) ∙ sym c.no_round.ensures ∙ c.if-no_round.false)

@@ -5,7 +5,6 @@ use native.Mathlib.Omega.{arith}
 use Rattle.scene.specs.Scene.{scene_of}
 use Rattle.rounds.proofs.RoundLaws.{arranged_same}
 use Rattle.by_rounds.proofs.EndLaws.{retry_stays, retry_goes}
-use borrow.Author.Rules.{rules}
 use Rattle.by_rounds.proofs.ends.end_retry.Goals as goal
 
 pub worked-requires : goal.worked-requires

@@ -4,7 +4,6 @@ use mathlib.Core.Path.{sym, ◌∙◌}
 use Rattle.scene.specs.Scene.{scene_of, parameters_of}
 use Rattle.by_rounds.specs.Running.{running_in}
 use Rattle.by_rounds.proofs.EndLaws.{went_none, went_as, end_retried, end_converged, end_still, end_retries}
-use borrow.Author.Rules.{rules}
 use Rattle.by_rounds.proofs.ends.end_run.Goals as goal
 
 pub returns-then-g-ne1 : goal.returns-then-g-ne1

@@ -6,7 +6,6 @@ use lib.Dec.{leb, ltb}
 use Rattle.scene.specs.Scene.{scene_of, parameters_of}
 use Rattle.by_rounds.specs.Running.{running_in}
 use Rattle.by_rounds.proofs.EndLaws.{went_none, went_as, row_count_is, judge_running, judge_finished}
-use borrow.Author.Rules.{rules}
 use Rattle.by_rounds.proofs.ends.judge.Goals as goal
 
 pub returns-then-is_running : goal.returns-then-is_running

@@ -2,7 +2,6 @@
 use Rattle.scene.specs.Scene.{scene_of, parameters_of}
 use Rattle.by_rounds.specs.Running.{running_in}
 use Rattle.by_rounds.proofs.EndLaws.{went_none, went_as, judged_near, judged_stop, judged_on}
-use borrow.Author.Rules.{rules}
 use Rattle.by_rounds.proofs.ends.judged.Goals as goal
 
 pub returns-then-near : goal.returns-then-near

@@ -1,7 +1,6 @@
 -- `by_rounds::ends::worked`: `rows_at` writes the rows at `rows`, and what stands before them is as it was (`worked_is`). Assumes nothing.
 use Rattle.scene.specs.Scene.{scene_of}
 use Rattle.by_rounds.proofs.EndLaws.{worked_is}
-use borrow.Author.Rules.{rules}
 use Rattle.by_rounds.proofs.ends.worked.Goals as goal
 
 pub returns : goal.returns

@@ -1,11 +1,9 @@
 -- `by_rounds::held::all_within`. The invariant: the errors passed are within the tolerance. The measure is the errors to come. Assumes nothing.
-use mathlib.Core.Path.{◌≡◌, sym}
+use mathlib.Core.Path.{◌≡◌}
 use mathlib.Core.Bool.{true}
 use Prim.Native.Nat.{◌-◌, ◌≤◌}
-use native.Mathlib.Omega.{arith}
 use lib.ListN.{take}
 use Rattle.closeness.specs.HowClosely.{all_within}
-use Rattle.by_rounds.proofs.HeldLaws.{none_passed, passed, off}
 use Rattle.by_rounds.proofs.held.all_within.Given as goal
 
 abbrev pub invariant-loop-i : goal.invariant-loop-i

@@ -3,7 +3,6 @@ use mathlib.Core.Path.{◌∙◌}
 use native.Mathlib.Omega.{arith}
 use lib.ListN.{length-set}
 use Rattle.by_rounds.proofs.HeldLaws.{held_put}
-use borrow.Author.Rules.{rules}
 use Rattle.by_rounds.proofs.held.put_held.Goals as goal
 
 pub copy_over-requires : goal.copy_over-requires

@@ -3,14 +3,13 @@
 use native.Mathlib.Omega.{arith}
 use Rattle.scene.specs.Scene.{parameters_of}
 use Rattle.by_rounds.proofs.HeldLaws.{left_is}
-use borrow.Author.Rules.{rules}
 use Rattle.by_rounds.proofs.held.put_reached.Goals as goal
 
 pub put_answer-requires : goal.put_answer-requires
 put_answer-requires c = record { laid = c.requires.laid; arranged = c.requires.arranged; m_in_bounds = c.requires.room.poses_long; m_in_bounds_2 = c.requires.room.frames_long; k_in_bounds = c.requires.room.errors_long }
 
 pub all_within-converged-requires : goal.all_within-converged-requires
-all_within-converged-requires c = omega (arith, c.errors-1.given, c.requires.room.errors_long)
+all_within-converged-requires c = omega (arith, c.requires.room.errors_long)
 
 pub returns : goal.returns
 returns c =

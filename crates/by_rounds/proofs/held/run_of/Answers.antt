@@ -1,6 +1,5 @@
 -- `by_rounds::held::run_of`: the test is the definition's. Assumes nothing.
 use mathlib.Core.Path.{sym, ◌∙◌}
-use borrow.Author.Rules.{rules}
 use Rattle.by_rounds.proofs.held.run_of.Goals as goal
 
 pub returns-then-is_running : goal.returns-then-is_running

@@ -1,7 +1,6 @@
 -- `by_rounds::held::take_held`: three parts of the caller's slice are copied to where the running state stands (`taken_is`). Assumes nothing.
 use mathlib.Core.Path.{refl}
 use Rattle.by_rounds.proofs.HeldLaws.{taken_is}
-use borrow.Author.Rules.{rules}
 use Rattle.by_rounds.proofs.held.take_held.Goals as goal
 
 pub returns : goal.returns

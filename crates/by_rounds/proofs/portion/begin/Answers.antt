@@ -11,7 +11,6 @@ use Rattle.portions.proofs.PortionLaws.{counts, start_settled}
 use Rattle.rounds.proofs.RoundLaws.{arranged_same}
 use Rattle.by_rounds.proofs.EndLaws.{none_made}
 use Rattle.by_rounds.proofs.GoLaws.{Ready, begun_is, ready_then, ready_settled, ready_gone, begin_is}
-use borrow.Author.Rules.{rules}
 use Rattle.by_rounds.proofs.portion.begin.Goals as goal
 
 pub worked-fresh-requires : goal.worked-fresh-requires
@@ -20,7 +19,7 @@ worked-fresh-requires c = record { laid = c.requires.laid; arranged = arranged_s
 pub judged-g-requires : goal.judged-g-requires
 judged-g-requires c =
     let ready : let g = c.args in let sc = scene_of g.sheet.now g.scene in let zeros = list_of start_at (unknowns sc) in Ready g.scene g.p g.s.now c.worked-fresh.new.s c.worked-fresh.result (fresh sc 1 zeros zeros) (inverse_weights sc (parameters_of g.q) (body_number g.drag)) =
-        let g = c.args in
+    let g = c.args in
     begun_is (scene_of g.sheet.now g.scene) g.scene g.p (parameters_of g.q) (body_number g.drag) g.s.now _ _ _ _ _ c.requires.laid.unknown_count c.requires.arranged c.inverse_weights.ensures c.put_start.ensures
     c.put_start-2.ensures
     c.worked-fresh.ensures in
@@ -29,12 +28,12 @@ judged-g-requires c =
 pub go-requires : goal.go-requires
 go-requires c =
     let ready : let g = c.args in let sc = scene_of g.sheet.now g.scene in let zeros = list_of start_at (unknowns sc) in Ready g.scene g.p g.s.now c.worked-fresh.new.s c.worked-fresh.result (fresh sc 1 zeros zeros) (inverse_weights sc (parameters_of g.q) (body_number g.drag)) =
-        let g = c.args in
+    let g = c.args in
     begun_is (scene_of g.sheet.now g.scene) g.scene g.p (parameters_of g.q) (body_number g.drag) g.s.now _ _ _ _ _ c.requires.laid.unknown_count c.requires.arranged c.inverse_weights.ensures c.put_start.ensures
     c.put_start-2.ensures
     c.worked-fresh.ensures in
     let started : let g = c.args in let sc = scene_of g.sheet.now g.scene in Ready g.scene g.p g.s.now c.judged-g.new.s c.judged-g.result (start sc (parameters_of g.q)) (inverse_weights sc (parameters_of g.q) (body_number g.drag)) =
-        let g = c.args in
+    let g = c.args in
     let sc = scene_of g.sheet.now g.scene in
     let e = c.no_round-stop.ensures ∙ none_made g.sheet.now g.scene (parameters_of g.q) c.requires.laid in
     rw e at (ready_then g.scene g.p g.s.now _ _ _ _ _ _ (judged sc (parameters_of g.q) c.no_round-stop.result) (ready) c.judged-g.ensures) in
@@ -44,12 +43,12 @@ go-requires c =
 pub shape_of-s : goal.shape_of-s
 shape_of-s c =
     let ready : let g = c.args in let sc = scene_of g.sheet.now g.scene in let zeros = list_of start_at (unknowns sc) in Ready g.scene g.p g.s.now c.worked-fresh.new.s c.worked-fresh.result (fresh sc 1 zeros zeros) (inverse_weights sc (parameters_of g.q) (body_number g.drag)) =
-        let g = c.args in
+    let g = c.args in
     begun_is (scene_of g.sheet.now g.scene) g.scene g.p (parameters_of g.q) (body_number g.drag) g.s.now _ _ _ _ _ c.requires.laid.unknown_count c.requires.arranged c.inverse_weights.ensures c.put_start.ensures
     c.put_start-2.ensures
     c.worked-fresh.ensures in
     let started : let g = c.args in let sc = scene_of g.sheet.now g.scene in Ready g.scene g.p g.s.now c.judged-g.new.s c.judged-g.result (start sc (parameters_of g.q)) (inverse_weights sc (parameters_of g.q) (body_number g.drag)) =
-        let g = c.args in
+    let g = c.args in
     let sc = scene_of g.sheet.now g.scene in
     let e = c.no_round-stop.ensures ∙ none_made g.sheet.now g.scene (parameters_of g.q) c.requires.laid in
     rw e at (ready_then g.scene g.p g.s.now _ _ _ _ _ _ (judged sc (parameters_of g.q) c.no_round-stop.result) (ready) c.judged-g.ensures) in
@@ -58,12 +57,12 @@ shape_of-s c =
 pub returns : goal.returns
 returns c =
     let ready : let g = c.args in let sc = scene_of g.sheet.now g.scene in let zeros = list_of start_at (unknowns sc) in Ready g.scene g.p g.s.now c.worked-fresh.new.s c.worked-fresh.result (fresh sc 1 zeros zeros) (inverse_weights sc (parameters_of g.q) (body_number g.drag)) =
-        let g = c.args in
+    let g = c.args in
     begun_is (scene_of g.sheet.now g.scene) g.scene g.p (parameters_of g.q) (body_number g.drag) g.s.now _ _ _ _ _ c.requires.laid.unknown_count c.requires.arranged c.inverse_weights.ensures c.put_start.ensures
     c.put_start-2.ensures
     c.worked-fresh.ensures in
     let started : let g = c.args in let sc = scene_of g.sheet.now g.scene in Ready g.scene g.p g.s.now c.judged-g.new.s c.judged-g.result (start sc (parameters_of g.q)) (inverse_weights sc (parameters_of g.q) (body_number g.drag)) =
-        let g = c.args in
+    let g = c.args in
     let sc = scene_of g.sheet.now g.scene in
     let e = c.no_round-stop.ensures ∙ none_made g.sheet.now g.scene (parameters_of g.q) c.requires.laid in
     rw e at (ready_then g.scene g.p g.s.now _ _ _ _ _ _ (judged sc (parameters_of g.q) c.no_round-stop.result) (ready) c.judged-g.ensures) in

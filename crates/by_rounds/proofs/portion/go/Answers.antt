@@ -1,13 +1,11 @@
 -- `by_rounds::portion::go`. The invariant: the rounds that are left come to what all come to, with those made they are as many as the definition makes, and the run that goes on
 -- has not ended by this set, so that it has few rows and has made few rounds (`few_left`). The measure is the rounds to come. Assumes nothing.
 use mathlib.Core.Path.{ap, ◌∙◌}
-use Prim.Native.Nat.{◌-◌, ◌≤◌}
 use native.Mathlib.Omega.{arith}
 use Rattle.least_squares.specs.Lm.{all_finite}
 use Rattle.scene.specs.Scene.{scene_of, parameters_of}
 use Rattle.rounds.proofs.RoundLaws.{arranged_same}
-use Rattle.by_rounds.proofs.GoLaws.{Gone, gone_start, gone_on_lem, gone_stop, gone_end, few_left}
-use borrow.Author.Rules.{rules}
+use Rattle.by_rounds.proofs.GoLaws.{gone_start, gone_on_lem, gone_stop, gone_end, few_left}
 use Rattle.by_rounds.proofs.portion.go.Goals as goal
 
 pub loop-i-init : goal.loop-i-init

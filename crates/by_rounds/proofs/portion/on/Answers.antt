@@ -9,7 +9,6 @@ use Rattle.portions.proofs.PortionLaws.{counts, judge_settled}
 use Rattle.by_rounds.specs.Running.{running_in}
 use Rattle.rounds.proofs.RoundLaws.{arranged_same}
 use Rattle.by_rounds.proofs.GoLaws.{Ready, weighed_is, ready_then, ready_settled, ready_gone, on_is}
-use borrow.Author.Rules.{rules}
 use Rattle.by_rounds.proofs.portion.on.Goals as goal
 
 pub judge-h-requires : goal.judge-h-requires
@@ -18,7 +17,7 @@ judge-h-requires c = record { laid = c.requires.laid; arranged = arranged_same c
 pub go-requires : goal.go-requires
 go-requires c =
     let judged : let g = c.args in let sc = scene_of g.sheet.now g.scene in Ready g.scene g.p g.s.now c.judge-h.new.s c.judge-h.result (judge sc (parameters_of g.q) (running_in g.scene g.p g.s.now g.g)) (inverse_weights sc (parameters_of g.q) (body_number g.drag)) =
-        let g = c.args in
+    let g = c.args in
     let sc = scene_of g.sheet.now g.scene in
     let q = parameters_of g.q in
     ready_then g.scene g.p g.s.now _ _ _ _ _ _ (judge sc q) (weighed_is sc g.scene g.p q (body_number g.drag) g.s.now _ g.g c.requires.arranged c.inverse_weights.ensures) c.judge-h.ensures in
@@ -28,7 +27,7 @@ go-requires c =
 pub returns : goal.returns
 returns c =
     let judged : let g = c.args in let sc = scene_of g.sheet.now g.scene in Ready g.scene g.p g.s.now c.judge-h.new.s c.judge-h.result (judge sc (parameters_of g.q) (running_in g.scene g.p g.s.now g.g)) (inverse_weights sc (parameters_of g.q) (body_number g.drag)) =
-        let g = c.args in
+    let g = c.args in
     let sc = scene_of g.sheet.now g.scene in
     let q = parameters_of g.q in
     ready_then g.scene g.p g.s.now _ _ _ _ _ _ (judge sc q) (weighed_is sc g.scene g.p q (body_number g.drag) g.s.now _ g.g c.requires.arranged c.inverse_weights.ensures) c.judge-h.ensures in

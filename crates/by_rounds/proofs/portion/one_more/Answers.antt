@@ -3,7 +3,6 @@
 use Rattle.scene.specs.Scene.{scene_of, parameters_of}
 use Rattle.rounds.proofs.RoundLaws.{arranged_same}
 use Rattle.by_rounds.proofs.GoLaws.{one_more_is}
-use borrow.Author.Rules.{rules}
 use Rattle.by_rounds.proofs.portion.one_more.Goals as goal
 
 pub one_round-t-requires : goal.one_round-t-requires

@@ -1,6 +1,5 @@
 -- `saving::parts::body_bytes` meets its contract: the flag's number and 0. Assumes nothing.
 use Rattle.saving.specs.Saving.{body_parts}
-use borrow.Author.Rules.{rules}
 use Rattle.saving.proofs.parts.body_bytes.Goals as goal
 
 pub returns : goal.returns

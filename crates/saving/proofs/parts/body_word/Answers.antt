@@ -2,7 +2,6 @@
 -- below `NO_BODY`, else `NO_BODY` (`word_is`). Assumes nothing.
 use mathlib.Core.Path.{refl}
 use native.Mathlib.Omega.{arith}
-use borrow.Author.Rules.{rules}
 use Rattle.saving.proofs.FieldLaws.{word_is}
 use Rattle.saving.proofs.parts.body_word.Goals as goal
 

@@ -1,7 +1,6 @@
 -- `saving::parts::end_numbers` meets its contract: the fields of the primitive, then the end's radius, in the definition's order. Assumes nothing.
 use mathlib.Core.List.{[], ◌∷◌}
 use Rattle.saving.specs.Saving.{end_numbers}
-use borrow.Author.Rules.{rules}
 use Rattle.saving.proofs.parts.end_numbers.Goals as goal
 
 pub returns : goal.returns

@@ -1,6 +1,5 @@
 -- `saving::parts::law_fields` meets its contract: in each arm the law is known, and the fields that the calls promise are those that the definitions give for it. Assumes nothing.
 use Rattle.saving.proofs.FieldLaws.{as_flag, as_joint}
-use borrow.Author.Rules.{rules}
 use Rattle.saving.proofs.parts.law_fields.Goals as goal
 
 pub returns-in-Mate : goal.returns-in-Mate

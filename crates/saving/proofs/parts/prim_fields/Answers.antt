@@ -1,7 +1,6 @@
 -- `saving::parts::prim_fields` meets its contract: in each arm the primitive is known, and the definitions compute to the fields given. Assumes nothing.
 use mathlib.Core.Path.{refl}
 use Rattle.relations.specs.Geometry.{point_of}
-use borrow.Author.Rules.{rules}
 use Rattle.saving.proofs.parts.prim_fields.Goals as goal
 
 pub returns-in-Plane : goal.returns-in-Plane

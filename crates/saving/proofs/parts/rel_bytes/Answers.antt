@@ -4,7 +4,6 @@ use mathlib.Core.List.{[], ◌∷◌}
 use Rattle.relations.specs.Model.{End}
 use Rattle.records.specs.Numbers.{prim_number, flag_number}
 use Rattle.saving.specs.Saving.{rel_parts}
-use borrow.Author.Rules.{rules}
 use Rattle.saving.proofs.parts.rel_bytes.Goals as goal
 
 pub returns : goal.returns

@@ -4,7 +4,6 @@ use mathlib.Core.List.{[], ◌∷◌}
 use lib.ListN.{get_or}
 use lib.Ieee.{nan}
 use Rattle.saving.specs.Saving.{end_numbers, rel_parts}
-use borrow.Author.Rules.{rules}
 use Rattle.saving.proofs.parts.rel_numbers.Goals as goal
 
 pub returns : goal.returns

@@ -3,7 +3,6 @@ use mathlib.Core.Path.{ap, ◌∙◌}
 use mathlib.Core.List.{[], ◌∷◌}
 use Rattle.relations.specs.Model.{End}
 use Rattle.saving.specs.Saving.{body_word, rel_parts}
-use borrow.Author.Rules.{rules}
 use Rattle.saving.proofs.parts.rel_words.Goals as goal
 
 pub returns : goal.returns

@@ -1,9 +1,6 @@
 -- `saving::save::bodies_fault` meets its contract. The invariant: the number held is that of the bodies passed, whose parts are numbers of the machine (`bodies_more`). The measure is those to come. Assumes nothing.
 use mathlib.Core.Path.{◌≡◌}
-use Prim.Native.Nat.{◌-◌, ◌≤◌}
 use native.Mathlib.Omega.{arith}
-use borrow.Author.Rules.{rules}
-use Rattle.saving.specs.Saved.{BodiesSaved}
 use Rattle.saving.proofs.SavedLaws.{no_bodies, bodies_more}
 use Rattle.saving.proofs.save.bodies_fault.Goals as goal
 

@@ -1,11 +1,9 @@
 -- `saving::save::put_bodies` meets its contract. The invariant: the records of the bodies passed stand from `at` on. The measure is those to come. Assumes nothing.
 use mathlib.Core.Path.{◌≡◌}
 use Prim.Native.Nat.{◌+◌, ◌*◌, ◌-◌, ◌≤◌}
-use native.Mathlib.Omega.{arith}
 use lib.ListN.{length}
 use Rattle.writing.specs.Bytes.{joined, Put}
 use Rattle.writing.specs.Writing.{body_bytes}
-use Rattle.writing.proofs.PutLaws.{put_size, joined_start, joined_step}
 use Rattle.saving.specs.Saving.{body_parts}
 use Rattle.saving.specs.Saved.{body_in}
 use Rattle.saving.proofs.save.put_bodies.Given as goal

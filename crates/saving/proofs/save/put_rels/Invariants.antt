@@ -1,11 +1,9 @@
 -- `saving::save::put_rels` meets its contract. The invariant: the records of the relations passed stand from `at` on. The measure is those to come. Assumes nothing.
 use mathlib.Core.Path.{◌≡◌}
 use Prim.Native.Nat.{◌+◌, ◌*◌, ◌-◌, ◌≤◌}
-use native.Mathlib.Omega.{arith}
 use lib.ListN.{length}
 use Rattle.writing.specs.Bytes.{joined, Put}
 use Rattle.writing.specs.Writing.{rel_bytes}
-use Rattle.writing.proofs.PutLaws.{put_size, joined_start, joined_step}
 use Rattle.saving.specs.Saving.{rel_parts}
 use Rattle.saving.specs.Saved.{rel_in}
 use Rattle.saving.proofs.save.put_rels.Given as goal

@@ -1,7 +1,6 @@
 -- `saving::save::put_saved_body` meets its contract: what is put are the body's parts. Assumes nothing.
 use Rattle.writing.specs.Writing.{body_bytes}
 use Rattle.writing.proofs.PutLaws.{put_as}
-use borrow.Author.Rules.{rules}
 use Rattle.saving.proofs.save.put_saved_body.Goals as goal
 
 pub returns : goal.returns

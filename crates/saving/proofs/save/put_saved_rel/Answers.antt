@@ -1,7 +1,6 @@
 -- `saving::save::put_saved_rel` meets its contract: what is put are the relation's parts. Assumes nothing.
 use Rattle.writing.specs.Writing.{rel_bytes}
 use Rattle.writing.proofs.PutLaws.{put_as}
-use borrow.Author.Rules.{rules}
 use Rattle.saving.proofs.save.put_saved_rel.Goals as goal
 
 pub returns : goal.returns

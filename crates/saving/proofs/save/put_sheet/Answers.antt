@@ -2,13 +2,11 @@
 use native.Mathlib.Omega.{arith}
 use Rattle.writing.specs.Writing.{sheet_bytes}
 use Rattle.writing.proofs.PutLaws.{put_then}
-use borrow.Author.Rules.{rules}
 use Rattle.saving.proofs.save.put_sheet.Goals as goal
 
 pub returns : goal.returns
 unfolding sheet_bytes
-returns c =
-    (
-      omega arith,
-      put_then _ _ _ _ _ _ _ _ c.put_header-a.ensures.1 (put_then _ _ _ _ _ _ _ _ c.put_bodies-b.ensures.1 c.put_rels.ensures.1),
-    )
+returns c = (
+  omega arith,
+  put_then _ _ _ _ _ _ _ _ c.put_header-a.ensures.1 (put_then _ _ _ _ _ _ _ _ c.put_bodies-b.ensures.1 c.put_rels.ensures.1),
+)

@@ -1,10 +1,6 @@
 -- `saving::save::rels_fault` meets its contract. The invariant: the number held is that of the relations passed, whose parts are numbers of the machine (`rels_more`). The measure is those to come. Assumes nothing.
-use mathlib.Core.Path.{◌≡◌}
 use Prim.Native.Nat.{◌-◌, ◌≤◌}
-use native.Mathlib.Omega.{arith}
-use borrow.Author.Rules.{rules}
 use Rattle.saving.specs.Saved.{RelsSaved}
-use Rattle.saving.proofs.SavedLaws.{no_rels, rels_more}
 use Rattle.saving.proofs.save.rels_fault.Given as goal
 
 abbrev pub invariant-loop-j : goal.invariant-loop-j

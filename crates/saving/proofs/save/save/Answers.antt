@@ -1,7 +1,6 @@
 -- `saving::save::save` answers as `SaveAnswer` says: what `scene_fault` refuses leaves the sheet as it was (`refused`); what it lets through has room (`accepted`), and `put_sheet` puts the scene's sheet (`written`). Assumes nothing.
 use mathlib.Core.Path.{sym, ◌∙◌}
 use Rattle.saving.proofs.SavedLaws.{accepted, written, refused}
-use borrow.Author.Rules.{rules}
 use Rattle.saving.proofs.save.save.Goals as goal
 
 pub put_sheet-requires : goal.put_sheet-requires

@@ -1,6 +1,5 @@
 -- `saving::save::saved_body_fault` meets its contract: what is tested are the body's parts (`body_saved`). Assumes nothing.
 use Rattle.saving.proofs.SavedLaws.{body_saved}
-use borrow.Author.Rules.{rules}
 use Rattle.saving.proofs.save.saved_body_fault.Goals as goal
 
 pub returns : goal.returns

@@ -1,6 +1,5 @@
 -- `saving::save::saved_rel_fault` meets its contract: what is tested are the relation's parts (`rel_saved`). Assumes nothing.
 use Rattle.saving.proofs.SavedLaws.{rel_saved}
-use borrow.Author.Rules.{rules}
 use Rattle.saving.proofs.save.saved_rel_fault.Goals as goal
 
 pub returns : goal.returns
