@@ -1,0 +1,15 @@
+-- `report::text::put_number` meets its contract: each piece is put directly behind the last, so the three are one list (`put_then`, twice). The number has at most five
+-- digits (`decimal_length`), so the newline has room. Assumes nothing.
+use native.Mathlib.Omega.{arith}
+use borrow.Author.Rules.{rules}
+use Rattle.writing.proofs.PutLaws.{put_then}
+use Rattle.report.proofs.TextLaws.{decimal_length}
+use Rattle.report.proofs.text.put_number.Goals as goal
+
+pub put_word-requires : goal.put_word-requires
+put_word-requires c = let few = decimal_length c.args.n (omega arith) in omega arith
+
+pub returns : goal.returns
+returns c =
+    put_then _ _ _ _ _ _ _ _ c.put_word-a.ensures
+    (put_then _ _ _ _ _ _ _ _ c.put_decimal-b.ensures c.put_word.ensures)
