@@ -2,7 +2,6 @@
 -- `answer_text` asks. The counts read are the sheet's, and the text with them is the definition's (`put_counted`). Assumes nothing.
 use native.Mathlib.Omega.{arith}
 use lib.Dec.{eqb}
-use borrow.Author.Rules.{rules}
 use Rattle.format.proofs.RefusalLaws.{sheet_passes}
 use Rattle.refusals.proofs.FigureLaws.{counted}
 use Rattle.report.proofs.RunLaws.{put_counted}

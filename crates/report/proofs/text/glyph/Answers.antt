@@ -1,6 +1,5 @@
 -- `report::text::glyph` meets its contract: the test is the definition's `ltb`, in both outcomes (`lt-ltb`, `le-ltb`). The number is below 16, so it fits a byte and
 -- the sums do too. Assumes nothing.
-use borrow.Author.Rules.{rules}
 use borrow.Author.Tests.{lt-ltb, le-ltb}
 use Rattle.report.proofs.text.glyph.Goals as goal
 

@@ -1,6 +1,5 @@
 -- `report::text::places` meets its contract. The invariant: k and the digits of `rest` are one more than those of n. The measure is `rest`. Assumes nothing.
-use mathlib.Core.Path.{◌≡◌}
-use Prim.Native.Nat.{◌+◌, ◌≤◌, ◌/◌, ◌<◌}
+use Prim.Native.Nat.{◌/◌, ◌<◌}
 use native.Mathlib.Omega.{arith}
 use native.Mathlib.Nat.{add_comm, div-lt_self}
 use Rattle.report.specs.Report.{places_in}

@@ -1,10 +1,7 @@
 -- `report::text::places` meets its contract. The invariant: k and the digits of `rest` are one more than those of n. The measure is `rest`. Assumes nothing.
 use mathlib.Core.Path.{◌≡◌}
-use Prim.Native.Nat.{◌+◌, ◌≤◌, ◌/◌, ◌<◌}
-use native.Mathlib.Omega.{arith}
-use native.Mathlib.Nat.{add_comm, div-lt_self}
+use Prim.Native.Nat.{◌+◌, ◌≤◌}
 use Rattle.report.specs.Report.{places_in}
-use Rattle.report.proofs.TextLaws.{places_step, places_end}
 use Rattle.report.proofs.text.places.Given as goal
 
 abbrev pub invariant-loop-rest : goal.invariant-loop-rest

@@ -1,12 +1,11 @@
 -- `report::text::put_bodies` meets its contract. The invariant: the lines of the bodies passed stand from `at` on. The measure is the bodies to come.
 -- Assumes nothing.
 use mathlib.Core.Path.{◌≡◌}
-use Prim.Native.Nat.{◌+◌, ◌-◌, ◌*◌, ◌≤◌}
+use Prim.Native.Nat.{◌+◌, ◌*◌}
 use native.Mathlib.Omega.{arith}
-use lib.ListN.{length, get_or}
+use lib.ListN.{get_or}
 use lib.Ieee.{nan}
-use Rattle.writing.specs.Bytes.{Put}
-use Rattle.report.specs.Report.{body_line, body_lines}
+use Rattle.report.specs.Report.{body_line}
 use Rattle.writing.proofs.PutLaws.{put_size, joined_start, joined_step}
 use Rattle.report.proofs.TextLaws.{bodies_length}
 use Rattle.report.proofs.text.put_bodies.Goals as goal

@@ -1,14 +1,10 @@
 -- `report::text::put_bodies` meets its contract. The invariant: the lines of the bodies passed stand from `at` on. The measure is the bodies to come.
 -- Assumes nothing.
 use mathlib.Core.Path.{◌≡◌}
-use Prim.Native.Nat.{◌+◌, ◌-◌, ◌*◌, ◌≤◌}
-use native.Mathlib.Omega.{arith}
-use lib.ListN.{length, get_or}
-use lib.Ieee.{nan}
+use Prim.Native.Nat.{◌-◌, ◌≤◌}
+use lib.ListN.{length}
 use Rattle.writing.specs.Bytes.{Put}
-use Rattle.report.specs.Report.{body_line, body_lines}
-use Rattle.writing.proofs.PutLaws.{put_size, joined_start, joined_step}
-use Rattle.report.proofs.TextLaws.{bodies_length}
+use Rattle.report.specs.Report.{body_lines}
 use Rattle.report.proofs.text.put_bodies.Given as goal
 
 abbrev pub invariant-loop-i : goal.invariant-loop-i

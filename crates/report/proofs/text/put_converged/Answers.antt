@@ -1,6 +1,5 @@
 -- `report::text::put_converged` meets its contract: each of the two words is byte for byte the definition's line for its flag, and `put_word` promises that it is put.
 -- Assumes nothing.
-use borrow.Author.Rules.{rules}
 use Rattle.report.proofs.text.put_converged.Goals as goal
 
 pub returns-then-converged : goal.returns-then-converged

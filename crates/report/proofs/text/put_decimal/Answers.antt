@@ -1,7 +1,6 @@
 -- `report::text::put_decimal` meets its contract: as many digits are written as the number has, at most five. Assumes nothing.
 use mathlib.Core.Path.{refl}
 use native.Mathlib.Omega.{arith}
-use borrow.Author.Rules.{rules}
 use Rattle.report.proofs.TextLaws.{places_bound, put_digits_as}
 use Rattle.report.proofs.text.put_decimal.Goals as goal
 

@@ -1,12 +1,10 @@
 -- `report::text::put_digits` meets its contract. The invariant: the last digits stand behind the i that are to come, which are those of `rest`. The measure is i.
 -- Assumes nothing.
-use mathlib.Core.Path.{◌≡◌}
-use Prim.Native.Nat.{◌%◌, ◌≤◌, ◌<◌}
+use Prim.Native.Nat.{◌%◌, ◌<◌}
 use native.Mathlib.Omega.{arith}
 use native.Mathlib.Nat.{mod-lt}
-use lib.ListN.{length}
 use Rattle.writing.proofs.PutLaws.{put_size}
-use Rattle.report.proofs.TextLaws.{Spelled, spelled_start, spelled_step, spelled_end}
+use Rattle.report.proofs.TextLaws.{spelled_start, spelled_step, spelled_end}
 use Rattle.report.proofs.text.put_digits.Goals as goal
 
 pub loop-i-init : goal.loop-i-init

@@ -1,12 +1,9 @@
 -- `report::text::put_digits` meets its contract. The invariant: the last digits stand behind the i that are to come, which are those of `rest`. The measure is i.
 -- Assumes nothing.
 use mathlib.Core.Path.{◌≡◌}
-use Prim.Native.Nat.{◌%◌, ◌≤◌, ◌<◌}
-use native.Mathlib.Omega.{arith}
-use native.Mathlib.Nat.{mod-lt}
+use Prim.Native.Nat.{◌≤◌}
 use lib.ListN.{length}
-use Rattle.writing.proofs.PutLaws.{put_size}
-use Rattle.report.proofs.TextLaws.{Spelled, spelled_start, spelled_step, spelled_end}
+use Rattle.report.proofs.TextLaws.{Spelled}
 use Rattle.report.proofs.text.put_digits.Given as goal
 
 abbrev pub invariant-loop-i : goal.invariant-loop-i

@@ -1,7 +1,6 @@
 -- `report::text::put_number` meets its contract: each piece is put directly behind the last, so the three are one list (`put_then`, twice). The number has at most five
 -- digits (`decimal_length`), so the newline has room. Assumes nothing.
 use native.Mathlib.Omega.{arith}
-use borrow.Author.Rules.{rules}
 use Rattle.writing.proofs.PutLaws.{put_then}
 use Rattle.report.proofs.TextLaws.{decimal_length}
 use Rattle.report.proofs.text.put_number.Goals as goal

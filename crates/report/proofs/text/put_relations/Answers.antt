@@ -1,12 +1,10 @@
 -- `report::text::put_relations` meets its contract. The invariant: the lines of the relations passed stand from `at` on. The measure is the relations to come.
 -- Assumes nothing.
 use mathlib.Core.Path.{◌≡◌}
-use Prim.Native.Nat.{◌-◌, ◌≤◌}
 use native.Mathlib.Omega.{arith}
-use lib.ListN.{length, get_or}
+use lib.ListN.{get_or}
 use lib.Ieee.{nan}
-use Rattle.writing.specs.Bytes.{Put}
-use Rattle.report.specs.Report.{relation_line, relation_lines}
+use Rattle.report.specs.Report.{relation_line}
 use Rattle.writing.proofs.PutLaws.{put_size, joined_start, joined_step}
 use Rattle.report.proofs.TextLaws.{relations_length}
 use Rattle.report.proofs.text.put_relations.Goals as goal

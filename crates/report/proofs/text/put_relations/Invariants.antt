@@ -2,13 +2,9 @@
 -- Assumes nothing.
 use mathlib.Core.Path.{◌≡◌}
 use Prim.Native.Nat.{◌-◌, ◌≤◌}
-use native.Mathlib.Omega.{arith}
-use lib.ListN.{length, get_or}
-use lib.Ieee.{nan}
+use lib.ListN.{length}
 use Rattle.writing.specs.Bytes.{Put}
-use Rattle.report.specs.Report.{relation_line, relation_lines}
-use Rattle.writing.proofs.PutLaws.{put_size, joined_start, joined_step}
-use Rattle.report.proofs.TextLaws.{relations_length}
+use Rattle.report.specs.Report.{relation_lines}
 use Rattle.report.proofs.text.put_relations.Given as goal
 
 abbrev pub invariant-loop-j : goal.invariant-loop-j

@@ -1,10 +1,8 @@
 -- `report::text::put_word` meets its contract. The invariant: the first i bytes of the word stand from `at` on. The measure is the bytes to come. Assumes nothing.
 use mathlib.Core.Path.{◌≡◌}
 use Prim.Native.Nat.{◌+◌, ◌-◌, ◌≤◌}
-use native.Mathlib.Omega.{arith}
 use lib.ListN.{length, take}
 use Rattle.writing.specs.Bytes.{Put}
-use Rattle.writing.proofs.PutLaws.{put_size, put_start, put_more, put_whole}
 use Rattle.report.proofs.text.put_word.Given as goal
 
 abbrev pub invariant-loop-i : goal.invariant-loop-i
