@@ -6,6 +6,7 @@ ghost use Rattle.arcs.specs.Arcs as spec;
 
 use crate::horner::horner;
 use crate::turns::less_turns;
+use numbers::remainder::remainder;
 use numbers::{is_finite, negative};
 
 // 2π, π, π/2, π/4
@@ -70,7 +71,7 @@ const ARCTANGENT: [f64; 20] = [
     -0.02564102564102564,
 ];
 
-#[derive(Drop)]
+#[derive(Clone, Copy)]
 pub struct SineCosine {
     pub sine: f64,
     pub cosine: f64,
@@ -116,7 +117,7 @@ fn reduced(t: f64) -> f64
     if 64.0 < t && t <= 1048576.0 {
         less_turns(t)
     } else {
-        t % T
+        remainder(t, T)
     }
 }
 

@@ -15,3 +15,4 @@ pub mod ListedLaws
 pub mod ValueOrder
 pub mod BitLaws
 pub mod BitOrder
+pub mod RemainderLaws

@@ -2,11 +2,15 @@
 
 #![tactic(auto)]
 
+pub mod remainder;
+
 ghost use Rattle.std.specs.Prelude.{◌≡◌};
 ghost use Rattle.std.specs.Float.{binary64};
 ghost use Rattle.std.specs.Float.Ieee.{is_nan, to_bits};
 ghost use Rattle.numbers.specs.Double as double;
 ghost use Rattle.numbers.specs.Whole.{WholeDouble};
+
+use crate::remainder::remainder;
 
 const MINUS_ONE: f64 = -1.0;
 
@@ -117,6 +121,6 @@ pub fn before(a: f64, b: f64) -> bool
 pub fn rem_euclid(a: f64, b: f64) -> f64
     ensures { result ≡ double.rem_euclid a b }
 {
-    let r = a % b;
+    let r = remainder(a, b);
     if r < 0.0 { r + b } else { r }
 }

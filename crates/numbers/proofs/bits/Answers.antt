@@ -1,7 +1,6 @@
 -- `numbers::bits` meets its contract: what differs from itself is the NaN, and what equals itself is none, so that it has bits. Assumes nothing.
 use mathlib.Core.Path.{sym, ◌∙◌}
 use lib.Ieee.{to_bits}
-use borrow.Author.Rules.{rules}
 use Rattle.numbers.proofs.DoubleLaws.{ne_self, nan_only}
 use Rattle.numbers.proofs.bits.Goals as goal
 

@@ -1,7 +1,7 @@
 -- `numbers::max` meets its contract: of two doubles in order the definition takes the larger (`fmax_less`, `fmax_more`). On the other paths the outcomes of the tests,
 -- where unequal to itself means NaN, choose the definition's value. Assumes nothing.
 use mathlib.Core.Path.{◌≡◌, sym, ◌∙◌}
-use mathlib.Core.Bool.{true, false}
+use mathlib.Core.Bool.{false}
 use lib.Ieee.{Float, is_nan, ne}
 use Rattle.numbers.proofs.DoubleLaws.{ne_self, fmax_less, fmax_more}
 use Rattle.numbers.specs.Double.{fmax}

@@ -1,11 +1,8 @@
 -- `numbers::of_u16` meets its contract: the cast is the definition's rounding, and a number of sixteen digits has no more than a double keeps. Assumes nothing.
-use borrow.Author.Rules.{rules}
 use mathlib.Core.Path.{refl}
 use native.Mathlib.Omega.{arith}
 use Rattle.numbers.specs.Double.{of_whole}
 use Rattle.numbers.proofs.WholeLaws.{whole_exact}
-use Rattle.numbers.proofs.of_u16.Reads as reads
-use Rattle.numbers.proofs.of_u16.Lts as lts
 use Rattle.numbers.proofs.of_u16.Goals as goal
 
 pub returns : goal.returns

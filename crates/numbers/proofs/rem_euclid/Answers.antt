@@ -4,8 +4,8 @@ use Rattle.numbers.proofs.rem_euclid.Goals as goal
 
 pub returns-then-r : goal.returns-then-r
 unfolding rem_euclid
-returns-then-r c = rw c.if-r.true
+returns-then-r c = rw (← c.remainder-r.ensures, c.if-r.true)
 
 pub returns-else-r : goal.returns-else-r
 unfolding rem_euclid
-returns-else-r c = rw c.if-r.false
+returns-else-r c = rw (← c.remainder-r.ensures, c.if-r.false)

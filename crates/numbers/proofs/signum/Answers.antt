@@ -1,6 +1,6 @@
 -- `numbers::signum` meets its contract: a double unequal to itself is a NaN, and the only NaN is the definition's; otherwise what `negative` promises chooses -1 or 1,
 -- as in the definition. Assumes nothing.
-use mathlib.Core.Path.{◌≡◌, sym, ◌∙◌}
+use mathlib.Core.Path.{sym, ◌∙◌}
 use Rattle.numbers.proofs.DoubleLaws.{ne_self, nan_only}
 use Rattle.numbers.specs.Double.{signum}
 use Rattle.numbers.proofs.signum.Goals as goal

@@ -22,6 +22,6 @@ pub returns-else-t-3 : goal.returns-else-t-3
 unfolding reduced far
 returns-else-t-3 c =
     elim c.else-t-3.branch [
-      | else-t-3-via-then-t-3+else-t-4 w ↦ rw (w.if-t-3.true, w.if-t-4.false)
-      | else-t-3-via-else-t-3 w ↦ rw w.if-t-3.false
+      | else-t-3-via-then-t-3+else-t-4 w ↦ rw (w.if-t-3.true, w.if-t-4.false) c.remainder.ensures
+      | else-t-3-via-else-t-3 w ↦ rw w.if-t-3.false c.remainder.ensures
     ]
