@@ -73,13 +73,13 @@ fn judge(file: &mut impl Read, which: u8) -> bool {
 }
 
 fn replay(rt: &(impl Files + Print + Eprint), path: &str, which: u8) -> io::Result<()> {
-    let mut file = list::open(rt, path)?;
+    let mut file = list::open(rt, path.as_bytes())?;
     let n = list::count(&mut file);
     let mut wrong = 0u64;
     for i in 0..n {
         wrong = counted(wrong, judge(&mut file, which));
     }
-    list::close(rt, path, file, n, wrong)
+    list::close(rt, path.as_bytes(), file, n, wrong)
 }
 
 fn main(rt: HostRuntime) -> io::Result<()> {

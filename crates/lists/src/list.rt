@@ -26,11 +26,17 @@ impl<F: Read> Read for ListFile<F> {
 }
 
 // Opens a list. Where that fails it says so, and what is read is as after a list's end.
-pub fn open<R: Files + Eprint>(rt: &R, path: &str) -> io::Result<ListFile<R::File>> {
-    match File::open(rt, path) {
-        Ok(file) => Ok(ListFile { file: Some(file) }),
-        Err(e) => {
-            eprintln!(rt; "{path}: {e}")?;
+pub fn open<R: Files + Eprint>(rt: &R, path: &[u8]) -> io::Result<ListFile<R::File>> {
+    match str::from_utf8(path) {
+        Ok(name) => match File::open(rt, name) {
+            Ok(file) => Ok(ListFile { file: Some(file) }),
+            Err(e) => {
+                eprintln!(rt; "{name}: {e}")?;
+                Ok(ListFile { file: None })
+            }
+        },
+        Err(_) => {
+            eprintln!(rt; "a list's name is no text")?;
             Ok(ListFile { file: None })
         }
     }
@@ -118,12 +124,13 @@ fn ends(file: &mut impl Read) -> bool {
 // Closes a list and prints how many answers it holds and how many of them are wrong, one more if it goes on after its records.
 pub fn close<F: Read + Drop>(
     rt: &impl Print,
-    path: &str,
+    path: &[u8],
     mut file: F,
     answers: u64,
     wrong: u64,
 ) -> io::Result<()> {
     let all = counted(wrong, ends(&mut file));
     drop(file);
-    println!(rt; "{path} answers {answers} wrong {all}")
+    rt.write_all(path)?;
+    println!(rt; " answers {answers} wrong {all}")
 }

@@ -139,7 +139,7 @@ fn replay(
     path: &str,
     scratch: &mut [f64; 4096],
 ) -> io::Result<()> {
-    let mut file = list::open(rt, path)?;
+    let mut file = list::open(rt, path.as_bytes())?;
     let n = list::count(&mut file);
     let mut answers = 0u64;
     let mut wrong = 0u64;
@@ -148,7 +148,7 @@ fn replay(
         answers = wrapping_add_u64(answers, t.answers);
         wrong = wrapping_add_u64(wrong, t.wrong);
     }
-    list::close(rt, path, file, answers, wrong)
+    list::close(rt, path.as_bytes(), file, answers, wrong)
 }
 
 // One scratch serves all calls and is never cleared.

@@ -265,7 +265,7 @@ fn replay(
     k: List,
     scratch: &mut [f64],
 ) -> io::Result<()> {
-    let mut file = list::open(rt, path)?;
+    let mut file = list::open(rt, path.as_bytes())?;
     let n = list::count(&mut file);
     let mut answers = 0u64;
     let mut wrong = 0u64;
@@ -274,7 +274,7 @@ fn replay(
         answers = wrapping_add_u64(answers, t.answers);
         wrong = wrapping_add_u64(wrong, t.wrong);
     }
-    list::close(rt, path, file, answers, wrong)
+    list::close(rt, path.as_bytes(), file, answers, wrong)
 }
 
 // Refusals, each field of a sheet, and the calls on one relation.

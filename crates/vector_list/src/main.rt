@@ -74,13 +74,13 @@ fn record(file: &mut impl Read, k: List) -> bool {
 }
 
 fn replay(rt: &(impl Files + Print + Eprint), path: &str, k: List) -> io::Result<()> {
-    let mut file = list::open(rt, path)?;
+    let mut file = list::open(rt, path.as_bytes())?;
     let n = list::count(&mut file);
     let mut wrong = 0u64;
     for i in 0..n {
         wrong = counted(wrong, record(&mut file, k));
     }
-    list::close(rt, path, file, n, wrong)
+    list::close(rt, path.as_bytes(), file, n, wrong)
 }
 
 fn main(rt: HostRuntime) -> io::Result<()> {

@@ -198,13 +198,13 @@ fn scene_right(file: &mut impl Read) -> bool {
 }
 
 fn replay(rt: &(impl Files + Print + Eprint), path: &str) -> io::Result<()> {
-    let mut file = list::open(rt, path)?;
+    let mut file = list::open(rt, path.as_bytes())?;
     let n = list::count(&mut file);
     let mut wrong = 0u64;
     for i in 0..n {
         wrong = counted(wrong, scene_right(&mut file));
     }
-    list::close(rt, path, file, n, wrong)
+    list::close(rt, path.as_bytes(), file, n, wrong)
 }
 
 // The scenes whose number is known.
