@@ -1,3 +1,4 @@
 pub mod EndLaws
 pub mod GoLaws
 pub mod HeldLaws
+pub mod OverLaws

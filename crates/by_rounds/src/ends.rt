@@ -161,6 +161,7 @@ pub fn judged(
 }
 
 // Whether a run that a call goes on with has made as many rounds as the call allows, or more; with over 800 rows no set begins a run.
+#[tactic(auto, using(crate::proofs::OverLaws::too_many))]
 fn is_over(scene: Scene, q: Parameters, done: u32) -> bool
     ensures { result ≡ (leb q.rounds done || ltb 800 scene.rows) }
 {

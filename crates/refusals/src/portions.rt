@@ -22,6 +22,7 @@ fn counts_fit(sheet: &[u8], unknowns: u32, rows: u32) -> bool
 }
 
 // The tests from 16 on.
+#[tactic(auto, using(crate::proofs::PortionLaws::portion_none, crate::proofs::PortionLaws::portion_over))]
 fn portion_fault(
     sheet: &[u8],
     portion: u32,

@@ -7,8 +7,8 @@ use native.Mathlib.Omega.{arith}
 use native.Mathlib.Numerals.{add-one}
 use borrow.Author.Tests.{eq-eqb, ne_eqb, lt-ltb, le-ltb}
 use lib.Dec.{eqb, ltb}
-use lib.ListN.{length}
-use lib.Ieee.{Float, binary64, le, of_bits}
+use lib.ListN.{length, get_or}
+use lib.Ieee.{Float, binary64, le, nan, of_bits}
 use Rattle.numbers.specs.MaxAbs.{max_abs}
 use Rattle.least_squares.specs.Memory.{part}
 use Rattle.least_squares.specs.Lm.{State, Tried, Outcome, norm2, one_round, rounds, run}
@@ -230,3 +230,16 @@ module _ (sc : Scene) (c : SceneStruct) (p : PartsStruct) (s u : List Float) (to
           unknowns = g.unknowns ∙ sym (ap (λ (o : Outcome). o.x) e);
           keeps = keeps_trans c p s u t run_keeps g.keeps;
         }
+
+-- ---- the end of a run where nothing moves, by plain lists
+
+pub still_run : (f : List Float → List Float) (winv : List Float) (tol : Float) (most limit : ℕ) (x : List Float) → (length (f x) ≡ 0 → ⊥) → le (max_abs (f x)) tol ≡ false → length x ≡ 0
+    → run f winv tol most limit x ≡ record { x = x; converged = false; rounds = 0 }
+still_run f winv tol most limit x h q l =
+    run_none f winv tol most limit x (f x) refl (or-false (eqb (length (f x)) 0) (le (max_abs (f x)) tol) (ne_eqb (length (f x)) 0 h) ∙ q) (rw (eq-eqb (length x) 0 l))
+
+pub same_part : (s u : List Float) (o k : ℕ) → length u ≡ length s → ((q : ℕ) → q < o + k → get_or u q nan ≡ get_or s q nan) → part u o k ≡ part s o k
+same_part s u o k e h = part_below s u (o + k) o k e h (omega arith)
+
+-- what the end of a run where nothing moves rests on
+pub ruleset still_end = (still_run, part_length, same_part)

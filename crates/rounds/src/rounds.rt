@@ -117,6 +117,7 @@ fn rounds(
 }
 
 // A run from the unknowns at `x`, with the damping 1e-10 at first; over the row limit there are no rounds.
+#[tactic(auto, using(crate::proofs::RunLaws::still_end))]
 pub fn run(sheet: &[u8], scene: Scene, s: &mut [f64], p: SolveParts, q: Parameters) -> RunEnd
     requires laid { Laid sheet.now scene }
     requires arranged { Arranged scene p (length s.old) }

@@ -21,7 +21,7 @@ use Rattle.format.specs.Format.{bodies_of, relations_of, body_start, rel_start}
 use Rattle.format.specs.Faults.{or_else, unless, sheet_fault}
 use Rattle.refusals.specs.Refusals.{relation_fault, judge_fault, reading_fault, snap_fault}
 use Rattle.sheet.specs.Calls.{relation_of, pose_in, center_in, reading_of, motion_of, reading_after, motion_after}
-use Rattle.format.proofs.RefusalLaws.{none_of, sheet_passes}
+use Rattle.format.proofs.RefusalLaws.{later, none_of, sheet_passes}
 
 -- ---- one test after another
 
@@ -119,3 +119,10 @@ motion_done s j before after m q em e = let h : snap_fault s j (length before) �
 pub motion_kept : (s : List ℕ) (j f : ℕ) (before : List Float) → f ≡ snap_fault s j (length before) → (f ≡ 0 → ⊥) → before ≡ motion_after s j before
 unfolding motion_after
 motion_kept s j f before q ne = rw (ne_eqb (snap_fault s j (length before)) 0 (λ z. ne (q ∙ z)))
+
+-- fewer than twelve doubles are lent, the sheet and the relation passing
+pub snap_short : (s : List ℕ) (j n : ℕ) → reading_fault s j ≡ 0 → n < 12 → snap_fault s j n ≡ 10
+snap_short s j n z h = sym (later _ _ _ _ _ (snap_parts s j n) (sym z) refl (fewer_lent n h))
+
+pub motion_short : (s : List ℕ) (j : ℕ) (before : List Float) → reading_fault s j ≡ 0 → length before < 12 → motion_after s j before ≡ before
+motion_short s j before z h = sym (motion_kept s j 10 before (sym (snap_short s j (length before) z h)) (λ w. omega arith))

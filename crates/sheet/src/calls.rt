@@ -153,6 +153,7 @@ pub extern "C" fn sheet_joint_reading(
 
 // The motion of b's body that makes the relation hold by itself, as a pose.
 #[unsafe(no_mangle)]
+#[tactic(auto, using(crate::proofs::CallLaws::snap_short, crate::proofs::CallLaws::motion_short))]
 pub extern "C" fn sheet_snap(sheet: &[u8], relation: u16, motion: &mut [f64]) -> u32
     ensures { calls.SnapAnswer sheet.now relation result motion.old motion.new }
 {

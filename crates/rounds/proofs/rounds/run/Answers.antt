@@ -1,12 +1,13 @@
 -- `rounds::rounds::run`: once the rows at the unknowns are worked, a run ends at once where there are none, where they are within the tolerance, where nothing moves or where
--- they are too many; else the rounds make it. Each of the five ends is one law of RunLaws over the scratch with those rows. Assumes nothing.
+-- they are too many; else the rounds make it. Four of the five ends are each one law of RunLaws over the scratch with those rows; the check finds the end where nothing
+-- moves by `still_end`, which the function names. Assumes nothing.
 use mathlib.Core.Path.{ap, ◌∙◌}
 use native.Mathlib.Nat.{le_trans}
 use native.Mathlib.Omega.{arith}
 use Rattle.least_squares.specs.Lm.{all_finite}
 use Rattle.scene.specs.Scene.{scene_of}
 use Rattle.rounds.proofs.RoundLaws.{arranged_same}
-use Rattle.rounds.proofs.RunLaws.{run_keeps, ran_empty, ran_within, ran_fixed, ran_large, ran_rounds}
+use Rattle.rounds.proofs.RunLaws.{run_keeps, ran_empty, ran_within, ran_large, ran_rounds}
 use Rattle.rounds.proofs.rounds.run.Goals as goal
 
 pub rows_at-requires : goal.rows_at-requires
@@ -33,22 +34,13 @@ returns-then-within c =
     let g = c.args in
     ran_within (scene_of g.sheet.now g.scene) g.scene g.p g.s.now _ g.q.tolerance g.q.rounds g.q.limit c.requires.arranged c.rows_at.ensures c.within.result c.within.ensures c.if-rows-eq0.false c.if-within.true
 
-pub shape_of-s-then-scene-eq0 : goal.shape_of-s-then-scene-eq0
-shape_of-s-then-scene-eq0 c = c.rows_at.ensures.size
-
-pub returns-then-scene-eq0 : goal.returns-then-scene-eq0
-returns-then-scene-eq0 c =
-    let g = c.args in
-    ran_fixed (scene_of g.sheet.now g.scene) g.scene g.p g.s.now _ g.q.tolerance g.q.rounds g.q.limit c.requires.arranged c.rows_at.ensures c.within.result c.within.ensures c.if-rows-eq0.false c.if-within.false c.if-scene-eq0.true
-
 pub shape_of-s-then-rows-q : goal.shape_of-s-then-rows-q
 shape_of-s-then-rows-q c = c.rows_at.ensures.size
 
 pub returns-then-rows-q : goal.returns-then-rows-q
 returns-then-rows-q c =
     let g = c.args in
-    ran_large (scene_of g.sheet.now g.scene) g.scene g.p g.s.now _ g.q.tolerance g.q.rounds g.q.limit c.requires.arranged c.rows_at.ensures c.within.result c.within.ensures c.if-rows-eq0.false c.if-within.false c.if-scene-eq0.false
-    c.if-rows-q.true
+    ran_large (scene_of g.sheet.now g.scene) g.scene g.p g.s.now _ g.q.tolerance g.q.rounds g.q.limit c.requires.arranged c.rows_at.ensures c.within.result c.within.ensures c.if-rows-eq0.false c.if-within.false (λ z. omega arith) c.if-rows-q.true
 
 pub squares-cost-requires : goal.squares-cost-requires
 squares-cost-requires c =
@@ -72,6 +64,6 @@ returns c =
     c.squares-cost.result
     c.rounds.result
     c.squares-cost.ensures
-    c.if-scene-eq0.false
+    (λ z. omega arith)
     c.if-rows-q.false
     c.rounds.ensures
