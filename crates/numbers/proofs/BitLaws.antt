@@ -3,7 +3,7 @@
 use Prim.Native.Nat.{ℕ, zero, suc, ◌+◌, ◌-◌, ◌*◌, ◌%◌, ◌^◌, ◌≤◌, ◌<◌}
 use mathlib.Core.Path.{◌≡◌, refl, sym, ap, subst}
 use mathlib.Core.Logic.{inl, inr}
-use mathlib.Core.Bool.{Bool, true, false, not, cond}
+use mathlib.Core.Bool.{Bool, true, false, not, cond, false≢true}
 use native.Mathlib.Nat.{eq-or-lt_of_le}
 use native.Mathlib.Omega.{arith}
 use lib.Dec.{T, leb, eqb, eqb→eq, eqb-suc-zero, not_T}
@@ -14,6 +14,7 @@ use lib.Ieee.Fits.{eq→eqb}
 use lib.Ieee.Exact.{HasValue, odd_sign}
 use lib.Ieee.Positive.{positive, first_pos, value_pos}
 use Rattle.numbers.specs.Bits.{field, significand, exponent}
+use Rattle.numbers.specs.Double.{is_finite}
 
 -- ---- significand and exponent by the field
 
@@ -61,21 +62,30 @@ unfolding of_bits significand exponent
 bits_value b h = fields_value (leb (2 ^ 63) b) (field b) (b % 2 ^ 52) h
 
 -- the bits of a finite double: the field is not the highest
-fields_finite : (s : Bool) (x t : ℕ) → x ≤ 2047 → T (positive (of_fields binary64 s x t)) → x < 2047
-unfolding of_fields
-fields_finite s zero t l p = omega arith
-fields_finite s (suc y) t l p = elim (eq-or-lt_of_le l) [ inl e ↦ absurd (top (eqb t 0) (at_top e)) | inr g ↦ g ]
+pub fields_below : (s : Bool) (x t : ℕ) → x ≤ 2047 → is_finite (of_fields binary64 s x t) ≡ true → x < 2047
+unfolding of_fields is_finite
+fields_below s zero t l p = omega arith
+fields_below s (suc y) t l p = elim (eq-or-lt_of_le l) [ inl e ↦ absurd (top (eqb t 0) (at_top e)) | inr g ↦ g ]
   where
-    at_top : suc y ≡ 2047 → T (positive (cond (eqb t 0) (inf s) nan))
+    at_top : suc y ≡ 2047 → is_finite (cond (eqb t 0) (inf s) nan) ≡ true
     at_top e =
-        subst (λ (v : Float). T (positive v))
-        (ap (λ (z : Bool). cond z (cond (eqb t 0) (inf s) nan) (odd 53 s (2 ^ 52 + t) y 1074))
-        (is_true (eqb (suc y) 2047) (eq→eqb e)))
+        subst (λ (v : Float). is_finite v ≡ true)
+        (ap (λ (z : Bool). cond z (cond (eqb t 0) (inf s) nan) (odd 53 s (2 ^ 52 + t) y 1074)) (is_true (eqb (suc y) 2047) (eq→eqb e)))
         p
 
-    top : (z : Bool) → T (positive (cond z (inf s) nan)) → ⊥
-    top true q = q
-    top false q = q
+    top : (z : Bool) → is_finite (cond z (inf s) nan) ≡ true → ⊥
+    top true q = false≢true q
+    top false q = false≢true q
+
+positive_finite : (x : Float) → T (positive x) → is_finite x ≡ true
+unfolding is_finite
+positive_finite nan p = absurd p
+positive_finite (inf s) p = absurd p
+positive_finite (fin true m e) p = absurd p
+positive_finite (fin false m e) p = refl
+
+fields_finite : (s : Bool) (x t : ℕ) → x ≤ 2047 → T (positive (of_fields binary64 s x t)) → x < 2047
+fields_finite s x t l p = fields_below s x t l (positive_finite (of_fields binary64 s x t) p)
 
 bits_finite : (b : ℕ) → T (positive (of_bits binary64 b)) → field b < 2047
 unfolding of_bits

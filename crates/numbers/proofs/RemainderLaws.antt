@@ -1,29 +1,28 @@
 -- The remainder of two finite doubles is that of two whole numbers of units of 2 ^ -1074, and it is found from significands brought to one power of two, digit by digit.
 -- The quotient is taken off by the equation a = b * (a / b) + a % b, times a number. Assumes nothing.
 use mathlib.Core.Path.{◌≡◌, refl, sym, ap, subst, ◌∙◌}
-use mathlib.Core.Logic.{inl, inr}
-use mathlib.Core.Bool.{Bool, true, false, not, ◌&&◌, cond, false≢true}
+use mathlib.Core.Bool.{Bool, true, false, not, ◌&&◌, false≢true}
 use Rattle.std.proofs.lemmas.Bool.{true≢false}
 use Prim.Native.Nat.{ℕ, zero, suc, ◌+◌, ◌-◌, ◌*◌, ◌/◌, ◌%◌, ◌^◌, ◌≤◌, ◌<◌}
-use native.Mathlib.Nat.{mul_comm, mul_assoc, mul_left_comm, mul_right_comm, add-mul, mul-pos, mod-lt, mod-eq_of_lt, add-mul-mod_self_right, mul-lt-mul_of_pos_right, mul-one, one-mul, eq-or-lt_of_le, lt_of_lt_of_le, le_trans, le_of_eq, mul-le-mul, zero-mul, zero-lt-suc}
+use native.Mathlib.Nat.{mul_comm, mul_assoc, mul_left_comm, mul_right_comm, add-mul, mul-pos, mod-lt, mod-eq_of_lt, add-mul-mod_self_right, mul-lt-mul_of_pos_right, mul-one, one-mul, lt_of_lt_of_le, le_trans, le_of_eq, mul-le-mul, zero-mul, zero-lt-suc}
 use native.Mathlib.Omega.{arith}
 use lib.Dec.{T, leb, eqb}
 use lib.Pow.{pow-add, pow_pos, pow_mono}
 use lib.IntN.{ℤ, pos}
-use lib.Ieee.{Float, nan, inf, fin, binary64, odd, up, down, unlike, round, mul, rem, eq, of_int, of_fields, of_bits, to_bits, fits, is_nan, nan_bits}
+use lib.Ieee.{Float, nan, inf, fin, binary64, up, down, unlike, round, mul, rem, eq, of_int, of_bits, to_bits, fits, is_nan, nan_bits}
 use lib.Ieee.Bits.{is_true, is_false, of_bits-to_bits, nan_bits_is}
 use lib.Ieee.Back.{round_whole}
 use lib.Ieee.Positive.{first_pos}
 use lib.Arith.{lt→nleb}
 use Rattle.std.proofs.Common.{le→leb}
 use borrow.Author.Tests.{eqb-true}
-use lib.Ieee.Fits.{eq→eqb, up_pos, down_pos}
+use lib.Ieee.Fits.{up_pos, down_pos}
 use lib.Ieee.Exact.{HasValue}
 use lib.Ieee.Scale.{round_same}
 use borrow.Author.Tests.{ne_eqb}
 use Rattle.numbers.specs.Bits.{field, significand, exponent}
 use Rattle.numbers.specs.Double.{is_finite, zero64}
-use Rattle.numbers.proofs.BitLaws.{bits_value, significand_low, significand_normal, exponent_is}
+use Rattle.numbers.proofs.BitLaws.{fields_below, bits_value, significand_low, significand_normal, exponent_is}
 use Rattle.numbers.proofs.ZeroLaws.{round_own}
 
 -- ---- whole numbers
@@ -51,21 +50,6 @@ mod_shifted m n d k N =
     ap (λ (x : ℕ). x % (n * 2 ^ d)) e ∙ mod_scaled (m * 2 ^ k) n (2 ^ d) N (pow_pos d)
 
 -- ---- what finite doubles are by their bits
-
-fields_below : (s : Bool) (x t : ℕ) → x ≤ 2047 → is_finite (of_fields binary64 s x t) ≡ true → x < 2047
-unfolding of_fields is_finite
-fields_below s zero t l p = omega arith
-fields_below s (suc y) t l p = elim (eq-or-lt_of_le l) [ inl e ↦ absurd (top (eqb t 0) (at_top e)) | inr g ↦ g ]
-  where
-    at_top : suc y ≡ 2047 → is_finite (cond (eqb t 0) (inf s) nan) ≡ true
-    at_top e =
-        subst (λ (v : Float). is_finite v ≡ true)
-        (ap (λ (z : Bool). cond z (cond (eqb t 0) (inf s) nan) (odd 53 s (2 ^ 52 + t) y 1074)) (is_true (eqb (suc y) 2047) (eq→eqb e)))
-        p
-
-    top : (z : Bool) → is_finite (cond z (inf s) nan) ≡ true → ⊥
-    top true q = false≢true q
-    top false q = false≢true q
 
 module _ (x : Float) (f : T (fits binary64 x)) (p : is_finite x ≡ true) where
   pub field_below : field (to_bits binary64 x) < 2047

@@ -15,6 +15,7 @@ const FIELD: u64 = 0x10_0000_0000_0000;
 
 const SIGN: u64 = 0x8000_0000_0000_0000;
 
+// Returns a finite double's significand from its bits.
 fn significand(b: u64) -> u64
     ensures { result ≡ spec.significand b }
 {
@@ -26,6 +27,7 @@ fn significand(b: u64) -> u64
     }
 }
 
+// Returns its exponent, counted from -1074.
 fn exponent(b: u64) -> u64
     ensures { result ≡ spec.exponent b }
 {
@@ -33,7 +35,7 @@ fn exponent(b: u64) -> u64
     if field == 0 { 0 } else { field - 1 }
 }
 
-// The bits of 2^d units of 2^-1074.
+// Returns the bits of 2^d units of 2^-1074.
 fn power(d: u64) -> u64
     requires { d ≤ 2045 }
     ensures plus { result < 2 ^ 63 }
@@ -43,7 +45,7 @@ fn power(d: u64) -> u64
     if d < 52 { 1 << d } else { (d - 51) * FIELD }
 }
 
-// 2^d units of 2^-1074, below 0 if `negative`.
+// Returns 2^d units of 2^-1074, below 0 if `negative`.
 fn unit(negative: bool, d: u64) -> f64
     requires { d ≤ 2045 }
     ensures { HasValue result negative (2 ^ d) (2 ^ 1074) }
@@ -56,7 +58,7 @@ fn unit(negative: bool, d: u64) -> f64
     }
 }
 
-// The remainder of m * 2^k by n, one binary digit at a time.
+// Returns the remainder of m * 2^k by n, one binary digit at a time.
 fn shifted(m: u64, k: u64, n: u64) -> u64
     requires n_pos { 0 < n }
     requires n_short { n < 2 ^ 53 }
@@ -69,7 +71,7 @@ fn shifted(m: u64, k: u64, n: u64) -> u64
     r
 }
 
-// The remainder of a finite double by another that is not 0. Where b's power of two is the larger, b is larger than a.
+// Returns the remainder of a finite double by another that is not 0. Where b's power of two is the larger, b is larger than a.
 fn of_finite(a: f64, b: f64) -> f64
     requires a_finite { double.is_finite a ≡ true }
     requires b_finite { double.is_finite b ≡ true }
@@ -87,6 +89,7 @@ fn of_finite(a: f64, b: f64) -> f64
     r as f64 * unit(SIGN <= x, d)
 }
 
+// Returns the remainder of a by b, with a's sign, as Rust's `%` does: a NaN if a is not finite, if b is a NaN or if b is 0; a itself if b is infinite.
 pub fn remainder(a: f64, b: f64) -> f64
     ensures { result ≡ rem binary64 a b }
 {

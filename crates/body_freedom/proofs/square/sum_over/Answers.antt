@@ -15,45 +15,31 @@ loop-j-init c = (omega arith, refl)
 
 pub overflow_mul-o : goal.overflow_mul-o
 overflow_mul-o c =
-    let within : let g = c.args in get_or g.list.now c.loop-j.j 0 * g.n + g.n ≤ length g.s.now =
-    c.requires.by_index c.loop-j.j c.loop-j-test.true in
-    omega (arith, within)
+    omega (arith, c.requires.by_index c.loop-j.j c.loop-j-test.true)
 
 pub overflow_add-t : goal.overflow_add-t
 overflow_add-t c =
-    let within : let g = c.args in get_or g.list.now c.loop-j.j 0 * g.n + g.n ≤ length g.s.now =
-    c.requires.by_index c.loop-j.j c.loop-j-test.true in
-    omega (arith, within)
+    omega (arith, c.requires.by_index c.loop-j.j c.loop-j-test.true)
 
 pub offset_bounds-s-o : goal.offset_bounds-s-o
 offset_bounds-s-o c =
-    let within : let g = c.args in get_or g.list.now c.loop-j.j 0 * g.n + g.n ≤ length g.s.now =
-    c.requires.by_index c.loop-j.j c.loop-j-test.true in
-    omega (arith, within)
+    omega (arith, c.requires.by_index c.loop-j.j c.loop-j-test.true)
 
 pub bounds-s-o : goal.bounds-s-o
 bounds-s-o c =
-    let within : let g = c.args in get_or g.list.now c.loop-j.j 0 * g.n + g.n ≤ length g.s.now =
-    c.requires.by_index c.loop-j.j c.loop-j-test.true in
-    omega (arith, within)
+    omega (arith, c.requires.by_index c.loop-j.j c.loop-j-test.true)
 
 pub overflow_add-t-in-loop-j : goal.overflow_add-t-in-loop-j
 overflow_add-t-in-loop-j c =
-    let within : let g = c.args in get_or g.list.now c.loop-j.j 0 * g.n + g.n ≤ length g.s.now =
-    c.requires.by_index c.loop-j.j c.loop-j-test.true in
-    omega (arith, within)
+    omega (arith, c.requires.by_index c.loop-j.j c.loop-j-test.true)
 
 pub offset_bounds-s-o-in-loop-j : goal.offset_bounds-s-o-in-loop-j
 offset_bounds-s-o-in-loop-j c =
-    let within : let g = c.args in get_or g.list.now c.loop-j.j 0 * g.n + g.n ≤ length g.s.now =
-    c.requires.by_index c.loop-j.j c.loop-j-test.true in
-    omega (arith, within)
+    omega (arith, c.requires.by_index c.loop-j.j c.loop-j-test.true)
 
 pub bounds-s-o-in-loop-j : goal.bounds-s-o-in-loop-j
 bounds-s-o-in-loop-j c =
-    let within : let g = c.args in get_or g.list.now c.loop-j.j 0 * g.n + g.n ≤ length g.s.now =
-    c.requires.by_index c.loop-j.j c.loop-j-test.true in
-    omega (arith, within)
+    omega (arith, c.requires.by_index c.loop-j.j c.loop-j-test.true)
 
 pub loop-j-preserved : goal.loop-j-preserved
 loop-j-preserved c =

@@ -8,33 +8,23 @@ use Rattle.eigen.proofs.eigen.rotate.Goals as goal
 
 pub overflow_mul-a : goal.overflow_mul-a
 overflow_mul-a c =
-    let rows_in : let a = c.args in (a.p * a.n + a.n ≤ a.n * a.n) × (a.q * a.n + a.n ≤ a.n * a.n) =
-    (row_within c.requires.p_lt_n, row_within c.requires.q_lt_n) in
-    omega (arith, rows_in)
+    omega (arith, row_within c.requires.p_lt_n, row_within c.requires.q_lt_n)
 
 pub overflow_mul-b : goal.overflow_mul-b
 overflow_mul-b c =
-    let rows_in : let a = c.args in (a.p * a.n + a.n ≤ a.n * a.n) × (a.q * a.n + a.n ≤ a.n * a.n) =
-    (row_within c.requires.p_lt_n, row_within c.requires.q_lt_n) in
-    omega (arith, rows_in)
+    omega (arith, row_within c.requires.p_lt_n, row_within c.requires.q_lt_n)
 
 pub overflow_add-apq : goal.overflow_add-apq
 overflow_add-apq c =
-    let rows_in : let a = c.args in (a.p * a.n + a.n ≤ a.n * a.n) × (a.q * a.n + a.n ≤ a.n * a.n) =
-    (row_within c.requires.p_lt_n, row_within c.requires.q_lt_n) in
-    omega (arith, rows_in)
+    omega (arith, row_within c.requires.p_lt_n, row_within c.requires.q_lt_n)
 
 pub offset_bounds-m-a : goal.offset_bounds-m-a
 offset_bounds-m-a c =
-    let rows_in : let a = c.args in (a.p * a.n + a.n ≤ a.n * a.n) × (a.q * a.n + a.n ≤ a.n * a.n) =
-    (row_within c.requires.p_lt_n, row_within c.requires.q_lt_n) in
-    omega (arith, rows_in)
+    omega (arith, row_within c.requires.p_lt_n, row_within c.requires.q_lt_n)
 
 pub bounds-m-a : goal.bounds-m-a
 bounds-m-a c =
-    let rows_in : let a = c.args in (a.p * a.n + a.n ≤ a.n * a.n) × (a.q * a.n + a.n ≤ a.n * a.n) =
-    (row_within c.requires.p_lt_n, row_within c.requires.q_lt_n) in
-    omega (arith, rows_in)
+    omega (arith, row_within c.requires.p_lt_n, row_within c.requires.q_lt_n)
 
 pub returns-then-abs : goal.returns-then-abs
 unfolding rotate
@@ -42,39 +32,27 @@ returns-then-abs c = rw (← c.abs.ensures, c.if-abs.true)
 
 pub overflow_add-a : goal.overflow_add-a
 overflow_add-a c =
-    let rows_in : let a = c.args in (a.p * a.n + a.n ≤ a.n * a.n) × (a.q * a.n + a.n ≤ a.n * a.n) =
-    (row_within c.requires.p_lt_n, row_within c.requires.q_lt_n) in
-    omega (arith, rows_in)
+    omega (arith, row_within c.requires.p_lt_n, row_within c.requires.q_lt_n)
 
 pub offset_bounds-m-a-2 : goal.offset_bounds-m-a-2
 offset_bounds-m-a-2 c =
-    let rows_in : let a = c.args in (a.p * a.n + a.n ≤ a.n * a.n) × (a.q * a.n + a.n ≤ a.n * a.n) =
-    (row_within c.requires.p_lt_n, row_within c.requires.q_lt_n) in
-    omega (arith, rows_in)
+    omega (arith, row_within c.requires.p_lt_n, row_within c.requires.q_lt_n)
 
 pub bounds-m-a-2 : goal.bounds-m-a-2
 bounds-m-a-2 c =
-    let rows_in : let a = c.args in (a.p * a.n + a.n ≤ a.n * a.n) × (a.q * a.n + a.n ≤ a.n * a.n) =
-    (row_within c.requires.p_lt_n, row_within c.requires.q_lt_n) in
-    omega (arith, rows_in)
+    omega (arith, row_within c.requires.p_lt_n, row_within c.requires.q_lt_n)
 
 pub overflow_add-b : goal.overflow_add-b
 overflow_add-b c =
-    let rows_in : let a = c.args in (a.p * a.n + a.n ≤ a.n * a.n) × (a.q * a.n + a.n ≤ a.n * a.n) =
-    (row_within c.requires.p_lt_n, row_within c.requires.q_lt_n) in
-    omega (arith, rows_in)
+    omega (arith, row_within c.requires.p_lt_n, row_within c.requires.q_lt_n)
 
 pub offset_bounds-m-b : goal.offset_bounds-m-b
 offset_bounds-m-b c =
-    let rows_in : let a = c.args in (a.p * a.n + a.n ≤ a.n * a.n) × (a.q * a.n + a.n ≤ a.n * a.n) =
-    (row_within c.requires.p_lt_n, row_within c.requires.q_lt_n) in
-    omega (arith, rows_in)
+    omega (arith, row_within c.requires.p_lt_n, row_within c.requires.q_lt_n)
 
 pub bounds-m-b : goal.bounds-m-b
 bounds-m-b c =
-    let rows_in : let a = c.args in (a.p * a.n + a.n ≤ a.n * a.n) × (a.q * a.n + a.n ≤ a.n * a.n) =
-    (row_within c.requires.p_lt_n, row_within c.requires.q_lt_n) in
-    omega (arith, rows_in)
+    omega (arith, row_within c.requires.p_lt_n, row_within c.requires.q_lt_n)
 
 pub returns : goal.returns
 returns c =

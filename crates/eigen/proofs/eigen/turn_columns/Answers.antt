@@ -13,27 +13,19 @@ loop-k-init c = (omega arith, refl, refl)
 
 pub overflow_mul-o : goal.overflow_mul-o
 overflow_mul-o c =
-    let row_in : let a = c.args in c.loop-k.k * a.n + a.n ≤ a.rows * a.n =
-    row_of c.args.n c.loop-k-test.true in
-    omega (arith, row_in)
+    omega (arith, row_of c.args.n c.loop-k-test.true)
 
 pub overflow_add-o : goal.overflow_add-o
 overflow_add-o c =
-    let row_in : let a = c.args in c.loop-k.k * a.n + a.n ≤ a.rows * a.n =
-    row_of c.args.n c.loop-k-test.true in
-    omega (arith, row_in)
+    omega (arith, row_of c.args.n c.loop-k-test.true)
 
 pub overflow_add-o-in-loop-k : goal.overflow_add-o-in-loop-k
 overflow_add-o-in-loop-k c =
-    let row_in : let a = c.args in c.loop-k.k * a.n + a.n ≤ a.rows * a.n =
-    row_of c.args.n c.loop-k-test.true in
-    omega (arith, row_in)
+    omega (arith, row_of c.args.n c.loop-k-test.true)
 
 pub turn_pair-requires : goal.turn_pair-requires
 turn_pair-requires c =
-    let row_in : let a = c.args in c.loop-k.k * a.n + a.n ≤ a.rows * a.n =
-    row_of c.args.n c.loop-k-test.true in
-    omega (arith, row_in)
+    omega (arith, row_of c.args.n c.loop-k-test.true)
 
 pub loop-k-preserved : goal.loop-k-preserved
 unfolding turn_columns

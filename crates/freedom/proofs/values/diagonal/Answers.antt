@@ -15,45 +15,31 @@ loop-i-init c = (omega arith, kept_refl _ _ _, refl)
 
 pub overflow_mul-s : goal.overflow_mul-s
 overflow_mul-s c =
-    let within : let a = c.args in (length c.loop-i.s ≡ length a.s.now) × (c.loop-i.i * a.n + a.n ≤ a.n * a.n) =
-    (c.loop-i.invariant.1.size, row_within c.loop-i-test.true) in
-    omega (arith, within)
+    omega (arith, c.loop-i.invariant.1.size, row_within c.loop-i-test.true)
 
 pub overflow_add-s : goal.overflow_add-s
 overflow_add-s c =
-    let within : let a = c.args in (length c.loop-i.s ≡ length a.s.now) × (c.loop-i.i * a.n + a.n ≤ a.n * a.n) =
-    (c.loop-i.invariant.1.size, row_within c.loop-i-test.true) in
-    omega (arith, within)
+    omega (arith, c.loop-i.invariant.1.size, row_within c.loop-i-test.true)
 
 pub offset_bounds-s-i : goal.offset_bounds-s-i
 offset_bounds-s-i c =
-    let within : let a = c.args in (length c.loop-i.s ≡ length a.s.now) × (c.loop-i.i * a.n + a.n ≤ a.n * a.n) =
-    (c.loop-i.invariant.1.size, row_within c.loop-i-test.true) in
-    omega (arith, within)
+    omega (arith, c.loop-i.invariant.1.size, row_within c.loop-i-test.true)
 
 pub bounds-s-i : goal.bounds-s-i
 bounds-s-i c =
-    let within : let a = c.args in (length c.loop-i.s ≡ length a.s.now) × (c.loop-i.i * a.n + a.n ≤ a.n * a.n) =
-    (c.loop-i.invariant.1.size, row_within c.loop-i-test.true) in
-    omega (arith, within)
+    omega (arith, c.loop-i.invariant.1.size, row_within c.loop-i-test.true)
 
 pub overflow_add-s-in-loop-i : goal.overflow_add-s-in-loop-i
 overflow_add-s-in-loop-i c =
-    let within : let a = c.args in (length c.loop-i.s ≡ length a.s.now) × (c.loop-i.i * a.n + a.n ≤ a.n * a.n) =
-    (c.loop-i.invariant.1.size, row_within c.loop-i-test.true) in
-    omega (arith, within)
+    omega (arith, c.loop-i.invariant.1.size, row_within c.loop-i-test.true)
 
 pub offset_bounds-s-k : goal.offset_bounds-s-k
 offset_bounds-s-k c =
-    let within : let a = c.args in (length c.loop-i.s ≡ length a.s.now) × (c.loop-i.i * a.n + a.n ≤ a.n * a.n) =
-    (c.loop-i.invariant.1.size, row_within c.loop-i-test.true) in
-    omega (arith, within)
+    omega (arith, c.loop-i.invariant.1.size, row_within c.loop-i-test.true)
 
 pub bounds-s-k : goal.bounds-s-k
 bounds-s-k c =
-    let within : let a = c.args in (length c.loop-i.s ≡ length a.s.now) × (c.loop-i.i * a.n + a.n ≤ a.n * a.n) =
-    (c.loop-i.invariant.1.size, row_within c.loop-i-test.true) in
-    omega (arith, within)
+    omega (arith, c.loop-i.invariant.1.size, row_within c.loop-i-test.true)
 
 pub loop-i-preserved : goal.loop-i-preserved
 loop-i-preserved c =

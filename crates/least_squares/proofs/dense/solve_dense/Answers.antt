@@ -14,8 +14,7 @@ pub max-scale-requires : goal.max-scale-requires
 max-scale-requires c =
     search rules
 
--- the scale of the matrix at entry
-
+-- `scaled`: the scale of the matrix at entry
 pub returns-then-not-eliminate : goal.returns-then-not-eliminate
 returns-then-not-eliminate c =
     let scaled : let g = c.args in c.max-scale.result ≡ scale_of (part g.s.now 0 (g.n * g.n)) =

@@ -3,7 +3,9 @@
 use mathlib.Core.Path.{◌≡◌, refl, sym, ap, ◌∙◌}
 use Prim.Native.Nat.{ℕ, ◌≤◌, ◌<◌}
 use native.Mathlib.Omega.{arith}
-use lib.ListN.{get_or, take}
+use mathlib.Core.List.{List}
+use lib.ListN.{length, get_or, take}
+use Rattle.least_squares.specs.Filled.{Filled}
 use lib.Ieee.{Float, binary64, add}
 use Rattle.numbers.specs.Double.{zero64}
 use Rattle.numbers.specs.Ops.{doubles}
@@ -12,89 +14,47 @@ use Rattle.least_squares.proofs.ColumnLaws.{column_below, weighted_term, gram_co
 use Rattle.numbers.proofs.ListedLaws.{over_step}
 use Rattle.least_squares.proofs.lm.gram.Goals as goal
 
+-- the column is one of the row's
+column_in : (s : List Float) (i n : ℕ) (list : List ℕ) (m j : ℕ) → n ≤ length list → Filled s i 1 n list m → j < m → (m ≤ n) × (get_or list j 0 < n)
+column_in s i n list m j l f h = (f.few, column_below s i n list m j l f h)
+
 pub loop-j-init : goal.loop-j-init
 unfolding sum_over
 loop-j-init c =
     (omega arith, refl)
 
--- the column is one of the row's
-
 pub offset_bounds-list-j : goal.offset_bounds-list-j
-offset_bounds-list-j c =
-    let inside : let g = c.args in (g.m ≤ g.n) × (get_or g.list.now c.loop-j.j 0 < g.n) =
-    let g = c.args in
-    (c.requires.filled.few, column_below g.s.now g.i g.n g.list.now g.m c.loop-j.j c.requires.n_in_bounds_2.1 c.requires.filled (omega arith)) in
-    omega (arith, inside)
+offset_bounds-list-j c = omega (arith, column_in _ _ _ _ _ c.loop-j.j c.requires.n_in_bounds_2.1 c.requires.filled (omega arith))
 
 pub bounds-list-j : goal.bounds-list-j
-bounds-list-j c =
-    let inside : let g = c.args in (g.m ≤ g.n) × (get_or g.list.now c.loop-j.j 0 < g.n) =
-    let g = c.args in
-    (c.requires.filled.few, column_below g.s.now g.i g.n g.list.now g.m c.loop-j.j c.requires.n_in_bounds_2.1 c.requires.filled (omega arith)) in
-    omega (arith, inside)
+bounds-list-j c = omega (arith, column_in _ _ _ _ _ c.loop-j.j c.requires.n_in_bounds_2.1 c.requires.filled (omega arith))
 
 pub overflow_add-t : goal.overflow_add-t
-overflow_add-t c =
-    let inside : let g = c.args in (g.m ≤ g.n) × (get_or g.list.now c.loop-j.j 0 < g.n) =
-    let g = c.args in
-    (c.requires.filled.few, column_below g.s.now g.i g.n g.list.now g.m c.loop-j.j c.requires.n_in_bounds_2.1 c.requires.filled (omega arith)) in
-    omega (arith, inside)
+overflow_add-t c = omega (arith, column_in _ _ _ _ _ c.loop-j.j c.requires.n_in_bounds_2.1 c.requires.filled (omega arith))
 
 pub offset_bounds-s-k : goal.offset_bounds-s-k
-offset_bounds-s-k c =
-    let inside : let g = c.args in (g.m ≤ g.n) × (get_or g.list.now c.loop-j.j 0 < g.n) =
-    let g = c.args in
-    (c.requires.filled.few, column_below g.s.now g.i g.n g.list.now g.m c.loop-j.j c.requires.n_in_bounds_2.1 c.requires.filled (omega arith)) in
-    omega (arith, inside)
+offset_bounds-s-k c = omega (arith, column_in _ _ _ _ _ c.loop-j.j c.requires.n_in_bounds_2.1 c.requires.filled (omega arith))
 
 pub bounds-s-k : goal.bounds-s-k
-bounds-s-k c =
-    let inside : let g = c.args in (g.m ≤ g.n) × (get_or g.list.now c.loop-j.j 0 < g.n) =
-    let g = c.args in
-    (c.requires.filled.few, column_below g.s.now g.i g.n g.list.now g.m c.loop-j.j c.requires.n_in_bounds_2.1 c.requires.filled (omega arith)) in
-    omega (arith, inside)
+bounds-s-k c = omega (arith, column_in _ _ _ _ _ c.loop-j.j c.requires.n_in_bounds_2.1 c.requires.filled (omega arith))
 
 pub overflow_add-t-in-loop-j : goal.overflow_add-t-in-loop-j
-overflow_add-t-in-loop-j c =
-    let inside : let g = c.args in (g.m ≤ g.n) × (get_or g.list.now c.loop-j.j 0 < g.n) =
-    let g = c.args in
-    (c.requires.filled.few, column_below g.s.now g.i g.n g.list.now g.m c.loop-j.j c.requires.n_in_bounds_2.1 c.requires.filled (omega arith)) in
-    omega (arith, inside)
+overflow_add-t-in-loop-j c = omega (arith, column_in _ _ _ _ _ c.loop-j.j c.requires.n_in_bounds_2.1 c.requires.filled (omega arith))
 
 pub offset_bounds-s-i : goal.offset_bounds-s-i
-offset_bounds-s-i c =
-    let inside : let g = c.args in (g.m ≤ g.n) × (get_or g.list.now c.loop-j.j 0 < g.n) =
-    let g = c.args in
-    (c.requires.filled.few, column_below g.s.now g.i g.n g.list.now g.m c.loop-j.j c.requires.n_in_bounds_2.1 c.requires.filled (omega arith)) in
-    omega (arith, inside)
+offset_bounds-s-i c = omega (arith, column_in _ _ _ _ _ c.loop-j.j c.requires.n_in_bounds_2.1 c.requires.filled (omega arith))
 
 pub bounds-s-i : goal.bounds-s-i
-bounds-s-i c =
-    let inside : let g = c.args in (g.m ≤ g.n) × (get_or g.list.now c.loop-j.j 0 < g.n) =
-    let g = c.args in
-    (c.requires.filled.few, column_below g.s.now g.i g.n g.list.now g.m c.loop-j.j c.requires.n_in_bounds_2.1 c.requires.filled (omega arith)) in
-    omega (arith, inside)
+bounds-s-i c = omega (arith, column_in _ _ _ _ _ c.loop-j.j c.requires.n_in_bounds_2.1 c.requires.filled (omega arith))
 
 pub overflow_add-t-in-loop-j-2 : goal.overflow_add-t-in-loop-j-2
-overflow_add-t-in-loop-j-2 c =
-    let inside : let g = c.args in (g.m ≤ g.n) × (get_or g.list.now c.loop-j.j 0 < g.n) =
-    let g = c.args in
-    (c.requires.filled.few, column_below g.s.now g.i g.n g.list.now g.m c.loop-j.j c.requires.n_in_bounds_2.1 c.requires.filled (omega arith)) in
-    omega (arith, inside)
+overflow_add-t-in-loop-j-2 c = omega (arith, column_in _ _ _ _ _ c.loop-j.j c.requires.n_in_bounds_2.1 c.requires.filled (omega arith))
 
 pub offset_bounds-s-w : goal.offset_bounds-s-w
-offset_bounds-s-w c =
-    let inside : let g = c.args in (g.m ≤ g.n) × (get_or g.list.now c.loop-j.j 0 < g.n) =
-    let g = c.args in
-    (c.requires.filled.few, column_below g.s.now g.i g.n g.list.now g.m c.loop-j.j c.requires.n_in_bounds_2.1 c.requires.filled (omega arith)) in
-    omega (arith, inside)
+offset_bounds-s-w c = omega (arith, column_in _ _ _ _ _ c.loop-j.j c.requires.n_in_bounds_2.1 c.requires.filled (omega arith))
 
 pub bounds-s-w : goal.bounds-s-w
-bounds-s-w c =
-    let inside : let g = c.args in (g.m ≤ g.n) × (get_or g.list.now c.loop-j.j 0 < g.n) =
-    let g = c.args in
-    (c.requires.filled.few, column_below g.s.now g.i g.n g.list.now g.m c.loop-j.j c.requires.n_in_bounds_2.1 c.requires.filled (omega arith)) in
-    omega (arith, inside)
+bounds-s-w c = omega (arith, column_in _ _ _ _ _ c.loop-j.j c.requires.n_in_bounds_2.1 c.requires.filled (omega arith))
 
 pub loop-j-preserved : goal.loop-j-preserved
 loop-j-preserved c =

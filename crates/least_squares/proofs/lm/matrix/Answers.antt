@@ -27,8 +27,7 @@ pub places-requires-in-loop-i : goal.places-requires-in-loop-i
 places-requires-in-loop-i c =
     omega arith
 
--- row i of the triangle ends where the triangle does, at the latest, and row i of the slopes where the slopes do
-
+-- `inside`: row i of the triangle ends where the triangle does, at the latest, and row i of the slopes where the slopes do
 pub overflow_add-a : goal.overflow_add-a
 overflow_add-a c =
     let inside : Inside c.loop-i.i c.args.n c.args.rows =

@@ -13,8 +13,7 @@ pub places-requires : goal.places-requires
 places-requires c =
     omega arith
 
--- the diagonal entry lies in the triangle
-
+-- `diagonal`: the diagonal entry lies in the triangle
 pub overflow_add-at : goal.overflow_add-at
 overflow_add-at c =
     let diagonal : let g = c.args in triangle g.i + g.i < triangle g.rows =
@@ -33,8 +32,7 @@ loop-k-init c =
     let n = triangle_next c.args.i in
     (omega arith, omega arith, omega arith, kept_refl _ _ _, λ j h l. absurd (omega arith))
 
--- the entry in row k of the triangle lies in it
-
+-- `below`: the entry in row k of the triangle lies in it
 pub overflow_add-at-in-loop-k : goal.overflow_add-at-in-loop-k
 overflow_add-at-in-loop-k c =
     let below : let g = c.args in triangle c.loop-k.k + g.i < triangle g.rows =

@@ -23,8 +23,7 @@ pub loop-i-init : goal.loop-i-init
 loop-i-init c =
     (omega arith, kept_refl _ _ _, λ p h k l. absurd (not-suc-le-zero h))
 
--- row i of the triangle ends where the triangle does, at the latest, row i of the square where the square does, and the scratch is as long as at entry
-
+-- `inside`: row i of the triangle ends where the triangle does, at the latest, row i of the square where the square does, and the scratch is as long as at entry
 pub overflow_mul-row : goal.overflow_mul-row
 overflow_mul-row c =
     let inside : Inside c.loop-i.i c.args.rows (length c.args.s.now) (length c.loop-i.s) =

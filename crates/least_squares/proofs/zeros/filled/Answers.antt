@@ -4,9 +4,9 @@
 use mathlib.Core.Path.{◌≡◌, refl, ◌∙◌}
 use mathlib.Core.List.{List}
 use mathlib.Core.Bool.{Bool, true, false, not, cond}
-use Prim.Native.Nat.{ℕ, ◌+◌, ◌*◌, ◌≤◌, ◌<◌}
+use Prim.Native.Nat.{ℕ, ◌+◌, ◌*◌, ◌≤◌}
 use native.Mathlib.Omega.{arith}
-use lib.ListN.{length, get_or, take, drop, set, length-set}
+use lib.ListN.{get_or, take, drop, set, length-set}
 use lib.Seq.{drop-set-lt, drop-drop}
 use lib.Ieee.{nan, eq}
 use Rattle.numbers.specs.Double.{zero64}
@@ -30,28 +30,16 @@ unfolding listed
 loop-c-init c = (omega arith, refl, record { first = record { few = omega arith; holds = refl }; behind = refl })
 
 pub overflow_mul-c : goal.overflow_mul-c
-overflow_mul-c c =
-    let inside : let g = c.args in c.loop-c.c * g.step + g.o < length g.s.now =
-    c.requires.by_index _ c.loop-c-test.true in
-    omega (arith, inside)
+overflow_mul-c c = omega (arith, c.requires.by_index _ c.loop-c-test.true)
 
 pub overflow_add-c : goal.overflow_add-c
-overflow_add-c c =
-    let inside : let g = c.args in c.loop-c.c * g.step + g.o < length g.s.now =
-    c.requires.by_index _ c.loop-c-test.true in
-    omega (arith, inside)
+overflow_add-c c = omega (arith, c.requires.by_index _ c.loop-c-test.true)
 
 pub offset_bounds-s-c : goal.offset_bounds-s-c
-offset_bounds-s-c c =
-    let inside : let g = c.args in c.loop-c.c * g.step + g.o < length g.s.now =
-    c.requires.by_index _ c.loop-c-test.true in
-    omega (arith, inside)
+offset_bounds-s-c c = omega (arith, c.requires.by_index _ c.loop-c-test.true)
 
 pub bounds-s-c : goal.bounds-s-c
-bounds-s-c c =
-    let inside : let g = c.args in c.loop-c.c * g.step + g.o < length g.s.now =
-    c.requires.by_index _ c.loop-c-test.true in
-    omega (arith, inside)
+bounds-s-c c = omega (arith, c.requires.by_index _ c.loop-c-test.true)
 
 pub overflow_add-m : goal.overflow_add-m
 overflow_add-m c = omega (arith, one_more _ _ c.counts-m.ensures)

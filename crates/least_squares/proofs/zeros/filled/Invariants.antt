@@ -12,5 +12,3 @@ invariant-loop-c l = (l.c ≤ l.k) × (length l.list ≡ length l.initial.list) 
 
 abbrev pub decreases-loop-c : goal.decreases-loop-c
 decreases-loop-c l = l.k - l.c
-
--- the double stands within the slice
