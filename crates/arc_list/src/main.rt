@@ -10,78 +10,76 @@ use lists::answers::{counted, same};
 use lists::list::{END, double, word};
 use std::io;
 use std::io::Read;
-use std::num::wrapping_add_u64;
 
-#[derive(Drop)]
+// How many records of each kind were read, and how many answers are wrong.
+#[derive(Clone, Copy, Default)]
 struct Tally {
     sines: u64,
     arctangents: u64,
     wrong: u64,
 }
 
-fn sines(input: &mut impl Read, n: Tally) -> Tally {
+// Whether the sine and the cosine of the next double are the next words, by the function for both and by each one's own.
+fn sines_right(input: &mut impl Read) -> bool {
     let t = double(input);
     let sine = word(input);
     let cosine = word(input);
     let r = arc::sine_cosine(t);
     let whole = same(r.sine, sine) & same(r.cosine, cosine);
     let apart = same(arc::sine(t), sine) & same(arc::cosine(t), cosine);
-    Tally {
-        sines: wrapping_add_u64(n.sines, 1),
-        arctangents: n.arctangents,
-        wrong: counted(n.wrong, whole & apart),
-    }
+    whole & apart
 }
 
-fn arctangents(input: &mut impl Read, n: Tally) -> Tally {
+// Whether the arctangent of the next two doubles is the next word.
+fn arctangent_right(input: &mut impl Read) -> bool {
     let y = double(input);
     let x = double(input);
-    Tally {
-        sines: n.sines,
-        arctangents: wrapping_add_u64(n.arctangents, 1),
-        wrong: counted(n.wrong, same(arc::arctangent(y, x), word(input))),
-    }
+    same(arc::arctangent(y, x), word(input))
 }
 
-// A record's first number says what follows.
-fn record(input: &mut impl Read, n: Tally, kind: u64) -> Tally {
-    if kind == 0 {
-        return sines(input, n);
-    }
-    if kind == 1 {
-        return arctangents(input, n);
-    }
-    Tally {
-        sines: n.sines,
-        arctangents: n.arctangents,
-        wrong: counted(n.wrong, false),
-    }
-}
-
-// Reads and counts records until the input ends.
-fn replay(input: &mut impl Read) -> Tally {
-    let mut n = Tally {
-        sines: 0,
-        arctangents: 0,
-        wrong: 0,
-    };
-    for _ in 0..100000 {
-        let kind = word(input);
-        if kind == END {
-            return n;
+impl Tally {
+    fn sines(self, right: bool) -> Tally {
+        Tally {
+            sines: self.sines.wrapping_add(1),
+            wrong: counted(self.wrong, right),
+            ..self
         }
-        n = record(input, n, kind);
     }
-    n
+
+    fn arctangents(self, right: bool) -> Tally {
+        Tally {
+            arctangents: self.arctangents.wrapping_add(1),
+            wrong: counted(self.wrong, right),
+            ..self
+        }
+    }
+
+    // A record of neither kind.
+    fn neither(self) -> Tally {
+        Tally {
+            wrong: counted(self.wrong, false),
+            ..self
+        }
+    }
 }
 
-fn line(rt: &impl Print, name: &str, n: u64) -> io::Result<()> {
-    println!(rt; "{name} {n}")
+// Reads and counts records until the input ends. A record's first number says what follows.
+fn replay(input: &mut impl Read) -> Tally {
+    let mut tally = Tally::default();
+    for _ in 0..100000 {
+        tally = match word(input) {
+            0 => tally.sines(sines_right(input)),
+            1 => tally.arctangents(arctangent_right(input)),
+            END => return tally,
+            _ => tally.neither(),
+        };
+    }
+    tally
 }
 
 fn main(rt: HostRuntime) -> io::Result<()> {
-    let n = replay(&mut rt.reader());
-    line(&rt, "sines and cosines", n.sines)?;
-    line(&rt, "arctangents", n.arctangents)?;
-    line(&rt, "wrong", n.wrong)
+    let tally = replay(&mut rt.reader());
+    println!(rt; "sines and cosines {}", tally.sines)?;
+    println!(rt; "arctangents {}", tally.arctangents)?;
+    println!(rt; "wrong {}", tally.wrong)
 }

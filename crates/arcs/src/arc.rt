@@ -8,15 +8,7 @@ use crate::horner::horner;
 use crate::turns::less_turns;
 use numbers::remainder::remainder;
 use numbers::{is_finite, negative};
-
-// 2π, π, π/2, π/4
-const T: f64 = 6.283185307179586;
-
-const P: f64 = 3.141592653589793;
-
-const H: f64 = 1.5707963267948966;
-
-const E: f64 = 0.7853981633974483;
+use std::f64::consts::{FRAC_PI_2, FRAC_PI_4, PI, TAU};
 
 // The double nearest √2 - 1.
 const ROOT_TWO_LESS: f64 = 0.41421356237309503;
@@ -78,6 +70,7 @@ pub struct SineCosine {
 }
 
 // 1 where the edge lies below a, else 0.
+#[tactic(auto, unfolding(crate::specs::Arcs::passed))]
 fn passed(edge: f64, a: f64) -> u32
     ensures value { result ≡ spec.passed edge a }
     ensures upper_bound { result ≤ 1 }
@@ -85,15 +78,20 @@ fn passed(edge: f64, a: f64) -> u32
     (edge < a) as u32
 }
 
-// How many of E, 3E, 5E, 7E lie below a.
+// How many of π/4, 3π/4, 5π/4, 7π/4 lie below a.
+#[tactic(auto, unfolding(crate::specs::Arcs::quarters))]
 fn quarters(a: f64) -> u32
     ensures value { result ≡ spec.quarters a }
     ensures upper_bound { result ≤ 4 }
 {
-    passed(E, a) + passed(3.0 * E, a) + passed(5.0 * E, a) + passed(7.0 * E, a)
+    passed(FRAC_PI_4, a)
+        + passed(3.0 * FRAC_PI_4, a)
+        + passed(5.0 * FRAC_PI_4, a)
+        + passed(7.0 * FRAC_PI_4, a)
 }
 
 // Sine and cosine after q turns of π/2, looked up: a branch would be guessed wrong as often as not. Each has a list of its own, which is quicker than the pair from one.
+#[tactic(auto, unfolding(crate::specs::Arcs::turned))]
 fn turned(q: u32, s: f64, c: f64) -> SineCosine
     requires { q ≤ 4 }
     ensures { result ≡ spec.turned q s c }
@@ -107,27 +105,28 @@ fn turned(q: u32, s: f64, c: f64) -> SineCosine
     }
 }
 
-// What is left of t after its turns: over 64 and up to 2^20 by T1 and T2, else the remainder by T. Up to T that is t itself, and the division is left out.
+// What is left of t after its turns: over 64 and up to 2^20 by T1 and T2, else the remainder by 2π. Up to 2π that is t itself, and the division is left out.
 fn reduced(t: f64) -> f64
     ensures { result ≡ spec.reduced t }
 {
-    if 0.0 <= t && t < T {
+    if 0.0 <= t && t < TAU {
         return t;
     }
     if 64.0 < t && t <= 1048576.0 {
         less_turns(t)
     } else {
-        remainder(t, T)
+        remainder(t, TAU)
     }
 }
 
 // Sine and cosine of a finite t ≥ 0.
+#[tactic(auto, unfolding(crate::specs::Arcs::sine_cosine_of))]
 fn sine_cosine_of(t: f64) -> SineCosine
     ensures { result ≡ spec.sine_cosine_of t }
 {
     let a = reduced(t);
     let q = quarters(a);
-    let b = a - q as f64 * H;
+    let b = a - f64::from(q) * FRAC_PI_2;
     let z = b * b;
     turned(q, b * horner(&SINE, z), horner(&COSINE, z))
 }
@@ -163,6 +162,7 @@ pub extern "C" fn cosine(t: f64) -> f64
 }
 
 // The series of the arctangent through (v * v)^19.
+#[tactic(auto, unfolding(crate::specs::Arcs::series))]
 fn series(v: f64) -> f64
     ensures { result ≡ spec.series v }
 {
@@ -184,15 +184,17 @@ fn magnitude(x: f64) -> f64
 }
 
 // The arctangent of a ratio from 0 to 1.
+#[tactic(auto, unfolding(crate::specs::Arcs::of_ratio))]
 fn of_ratio(u: f64) -> f64
     ensures { result ≡ spec.of_ratio u }
 {
     let above = ROOT_TWO_LESS < u;
     let w = series(pick(above, u, (u - 1.0) / (u + 1.0)));
-    pick(above, w, E + w)
+    pick(above, w, FRAC_PI_4 + w)
 }
 
 // The smaller magnitude over the larger; 0 where both are 0.
+#[tactic(auto, unfolding(crate::specs::Arcs::ratio))]
 fn ratio(small: f64, large: f64) -> f64
     ensures { result ≡ spec.ratio small large }
 {
@@ -200,20 +202,22 @@ fn ratio(small: f64, large: f64) -> f64
 }
 
 // The arctangent of two magnitudes.
+#[tactic(auto, unfolding(crate::specs::Arcs::of_magnitudes))]
 fn of_magnitudes(y: f64, x: f64) -> f64
     ensures { result ≡ spec.of_magnitudes y x }
 {
     let steep = x < y;
     let w = of_ratio(ratio(pick(steep, y, x), pick(steep, x, y)));
-    pick(steep, w, H - w)
+    pick(steep, w, FRAC_PI_2 - w)
 }
 
 // The arctangent of two finite doubles, with the signs of both.
+#[tactic(auto, unfolding(crate::specs::Arcs::arctangent_of))]
 fn arctangent_of(y: f64, x: f64) -> f64
     ensures { result ≡ spec.arctangent_of y x }
 {
     let w = of_magnitudes(magnitude(y), magnitude(x));
-    let p = pick(negative(x), w, P - w);
+    let p = pick(negative(x), w, PI - w);
     pick(negative(y), p, -p)
 }
 

@@ -8,15 +8,8 @@ ghost use Rattle.numbers.specs.Horner as spec;
 pub fn horner(cs: &[f64], z: f64) -> f64
     ensures { result ≡ spec.horner doubles cs.now z }
 {
-    let mut i = cs.len();
-    if i == 0 {
-        return 0.0;
+    match cs {
+        [] => 0.0,
+        [rest @ .., top] => rest.iter().rev().fold(*top, |r, &c| c + z * r),
     }
-    i -= 1;
-    let mut r = cs[i];
-    while 0 < i {
-        i -= 1;
-        r = cs[i] + z * r;
-    }
-    r
 }

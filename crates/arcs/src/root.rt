@@ -6,10 +6,7 @@ ghost use Rattle.numbers.specs.Bits.{field, significand, exponent};
 ghost use Rattle.arcs.specs.Root.{CorrectRoot};
 ghost use Rattle.arcs.specs.RootSteps.{Even, WholeRoot, Squared, Flag};
 
-// the weights of the exponent's field and of the sign in a double's bits: 2^52 and 2^63
-const FIELD: u64 = 0x10_0000_0000_0000;
-
-const SIGN: u64 = 0x8000_0000_0000_0000;
+use numbers::{FIELD, SIGN};
 
 // the bits of 1
 const ONE: u64 = 0x3FF0_0000_0000_0000;
@@ -57,8 +54,7 @@ fn whole_root(m: u64) -> u64
     let mut q: u64 = 0;
     let mut rem: u64 = 0;
     let mut rest = m * 0x400;
-    let mut i: u64 = 0;
-    while i < 53 {
+    for _ in 0u64..53 {
         let more = rem * 4 + rest / 0x4000_0000_0000_0000;
         rest = rest % 0x4000_0000_0000_0000 * 4;
         if q * 4 < more {
@@ -68,7 +64,6 @@ fn whole_root(m: u64) -> u64
             rem = more;
             q = q * 2;
         }
-        i += 1;
     }
     if q < rem { q + 1 } else { q }
 }

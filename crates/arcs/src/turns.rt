@@ -4,6 +4,8 @@ ghost use Rattle.std.specs.Prelude.{◌≡◌, ◌+◌, ◌*◌, ◌^◌, ◌≤
 ghost use Rattle.arcs.specs.Arcs as spec;
 ghost use Rattle.arcs.specs.TurnSteps.{Steps, Room, turn};
 
+use numbers::FIELD;
+
 // 2π cut to its first 33 binary digits, and the double nearest the rest.
 const T1: f64 = 6.2831853069365025;
 
@@ -15,9 +17,6 @@ const HIGH: u64 = 6746518852;
 const MIDDLE: u64 = 17105;
 
 const LOW: u64 = 142176576305;
-
-// the weight of the exponent's field in a double's bits: 2^52
-const FIELD: u64 = 0x10_0000_0000_0000;
 
 // An angle in units of 2^-46: high * 2^16 + low
 #[derive(Drop)]

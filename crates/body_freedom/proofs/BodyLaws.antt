@@ -7,11 +7,12 @@ use mathlib.Core.List.{List, [], ◌∷◌, ◌++◌, map, map-append, append-ni
 use mathlib.Core.Option.{Option, none, some}
 use native.Mathlib.Omega.{arith}
 use native.Mathlib.Numerals.{add-one}
-use lib.ListN.{length, get_or, set, take, drop, replicate, length-append, length-map, length-take, length-replicate, get_or-map}
-use lib.Seq.{drop-cons, drop-length, take_at, length-take-le, get_or-take, take-suc, take-suc-set}
+use lib.ListN.{length, drop_of_length-le, get_or, set, take, drop, replicate, length-append, length-map, length-take, length-replicate}
+use lib.Seq.{drop-cons, take_all, take_at, length-take-le, take-suc, take-suc-set}
 use lib.Ieee.{Float, nan, binary64, div, lt, of_bits}
 use lib.Dec.{ltb}
 use borrow.Author.Tests.{ltb-true, lt-ltb, le-ltb}
+use Rattle.std.specs.List.{fold, list_all}
 use Rattle.numbers.specs.Ops.{doubles}
 use Rattle.numbers.specs.Double.{zero64, one64, abs, fmax, before}
 use Rattle.vectors.specs.declared.vec.Vec3.{Vec3}
@@ -35,7 +36,8 @@ use Rattle.body_freedom.specs.Dof.{Turn, Freedom, square_of, largest_value, top,
 use Rattle.body_freedom.specs.declared.body.Free.{Free}
 use Rattle.body_freedom.specs.declared.body.Freedom.{Freedom as FreedomStruct}
 use Rattle.body_freedom.specs.Layout.{count_double, slides_doubles, turns_doubles, padded, freedom_doubles}
-use Rattle.body_freedom.specs.BodyFreedom.{from_square, eigen_of, eigens_of, motion_of, motions, most_of, point_about, is_extra, axis_of, point_of, three_of, freedom_struct, three_doubles, turn_doubles, struct_doubles}
+use Rattle.body_freedom.specs.Motions.{motions}
+use Rattle.body_freedom.specs.BodyFreedom.{from_square, eigen_of, eigens_of, motion_of, point_about, is_extra, axis_of, point_of, three_of, freedom_struct, three_doubles, turn_doubles, struct_doubles}
 
 -- a body's freedom is that of the square of its slopes
 pub body_dof_is : (jac : List Float) (rows : ℕ) (center : Vec Float) (l : Float) → body_dof jac rows center l ≡ from_square (square_of jac rows 6) center l
@@ -48,15 +50,7 @@ module _ {A B : Type 0} (f : A → B) (k : ℕ) (xs : List A) (d : A) (fits : k 
   pub length_first : length (map f (take k xs)) ≡ k
   length_first = length-map (take k xs) f ∙ length-take-le k xs fits
 
-  pub next : (i : ℕ) → i < k → drop i (map f (take k xs)) ≡ f (get_or xs i d) ∷ drop (i + 1) (map f (take k xs))
-  next i h =
-      let n = length_first in
-      rw (add-one, drop-cons (map f (take k xs)) i (f d) (omega arith), get_or-map f (take k xs) i d, get_or-take k xs i d h)
-
-  pub none_left : (i : ℕ) → i ≡ k → drop i (map f (take k xs)) ≡ []
-  none_left i e = rw (length_first ∙ sym e) at (drop-length (map f (take k xs)))
-
-pub first_suc : {A B : Type 0} (f : A → B) (i : ℕ) (xs : List A) (d : A) → i < length xs → map f (take (i + 1) xs) ≡ map f (take i xs) ++ (f (get_or xs i d) ∷ [])
+first_suc : {A B : Type 0} (f : A → B) (i : ℕ) (xs : List A) (d : A) → i < length xs → map f (take (i + 1) xs) ≡ map f (take i xs) ++ (f (get_or xs i d) ∷ [])
 first_suc f i xs d h = rw (add-one, take-suc xs i d h) (map-append f (take i xs) (get_or xs i d ∷ []))
 
 pub first_set : {A B : Type 0} (f : A → B) (i : ℕ) (xs : List A) (x : A) → i < length xs → map f (take (i + 1) (set xs i x)) ≡ map f (take i xs) ++ (f x ∷ [])
@@ -64,14 +58,10 @@ first_set f i xs x h = rw (add-one, take-suc-set xs i x h) (map-append f (take i
 
 -- ---- free motions
 
-module _ (e : List Eigen6) (long : length e ≡ 6) (m : Float) (i : ℕ) where
-  pub largest_step : i < 6 → largest_value m (drop i (eigens_of 6 e)) ≡ largest_value (fmax m (get_or e i past6).value) (drop (i + 1) (eigens_of 6 e))
-  unfolding largest_value
-  largest_step h = rw (next eigen_of 6 e past6 (omega arith) i h)
-
-  pub largest_end : i ≡ 6 → largest_value m (drop i (eigens_of 6 e)) ≡ m
-  unfolding largest_value
-  largest_end h = rw (none_left eigen_of 6 e past6 (omega arith) i h)
+pub largest_fold : (m : Float) (l : List Eigen6) → fold (λ n p. fmax n p.value) m l ≡ largest_value m (map eigen_of l)
+unfolding largest_value
+largest_fold m [] = refl
+largest_fold m (p ∷ l) = largest_fold (fmax m p.value) l
 
 free_snoc : (most : Float) (l : List Eigen) (e : Eigen)
     → free_of most (l ++ (e ∷ [])) ≡ cond (is_free most e.value) (free_of most l ++ (e.vector ∷ [])) (free_of most l)
@@ -102,19 +92,15 @@ parts_step part pairs out i v h k e f =
 
 -- ---- turns
 
-module _ (f : Free) (fits : f.count ≤ length f.pairs) (axis : Vec Float) where
-  pub most_start : 0 < f.count → most_about axis (get_or f.pairs 0 past6).vector (drop 1 (motions f)) ≡ most_of axis (motions f)
-  most_start h = rw (get_or-map motion_of (take f.count f.pairs) 0 past6, get_or-take f.count f.pairs 0 past6 h)
-
-  pub most_step : (i : ℕ) (best b : List Float) → i < f.count
-      → b ≡ cond (before (about_axis axis (get_or f.pairs i past6).vector) (about_axis axis best)) best (get_or f.pairs i past6).vector
-      → most_about axis best (drop i (motions f)) ≡ most_about axis b (drop (i + 1) (motions f))
+module _ (axis : Vec Float) (ps : List Eigen6) (i : ℕ) (best : List Float) where
+  pub most_step : (b : List Float) → i < length ps → b ≡ cond (before (about_axis axis (get_or ps i past6).vector) (about_axis axis best)) best (get_or ps i past6).vector
+      → most_about axis best (map motion_of (drop i ps)) ≡ most_about axis b (map motion_of (drop (i + 1) ps))
   unfolding most_about
-  most_step i best b h e = rw (next motion_of f.count f.pairs past6 fits i h, e)
+  most_step b h e = rw (add-one, drop-cons ps i past6 h, e)
 
-  pub most_end : (i : ℕ) (best : List Float) → i ≡ f.count → most_about axis best (drop i (motions f)) ≡ best
+  pub most_end : length ps ≤ i → most_about axis best (map motion_of (drop i ps)) ≡ best
   unfolding most_about
-  most_end i best e = rw (none_left motion_of f.count f.pairs past6 fits i e)
+  most_end h = rw (drop_of_length-le ps h)
 
 -- the point of a turn, step by step
 module _ (center : Vec Float) (l : Float) (e : List Float) (p w : Vec Float) (w2 : Float) (is-turn : p ≡ turn_part e) (is-w : w ≡ scale_v doubles p (div binary64 one64 l))
@@ -144,37 +130,36 @@ module _ (center : Vec Float) (l : Float) (e : List Float) (p w : Vec Float) (w2
   unfolding turn_point
   turn_point_none test = sym (ap (λ (b : Bool). cond b (add_v doubles center offset) center) (sym (ap (lt zero64) square_is) ∙ test))
 
-pub point_none : (center : Vec Float) (l : Float) (f : Free) (axis : Vec Float) → f.count ≡ 0 → center ≡ point_about center l (motions f) axis
-unfolding turn_about
-point_none center l f axis e = rw e
+module _ (center : Vec Float) (l : Float) (axis : Vec Float) where
+  pub point_none : (ps : List Eigen6) → length ps < 1 → center ≡ point_about center l (map motion_of ps) axis
+  unfolding turn_about
+  point_none [] h = refl
+  point_none (p ∷ ps) h = absurd (omega arith)
 
-some_about : (center : Vec Float) (l : Float) (free : List (List Float)) (axis : Vec Float) → 0 < length free → turn_point center l (most_of axis free) ≡ point_about center l free axis
-unfolding turn_about
-some_about center l [] axis h = absurd (omega arith)
-some_about center l (e ∷ free) axis h = refl
-
-pub point_some : (center : Vec Float) (l : Float) (f : Free) (axis : Vec Float) (e : List Float) (r : Vec Float) → 0 < f.count → f.count ≤ length f.pairs
-    → e ≡ most_of axis (motions f) → r ≡ turn_point center l e → r ≡ point_about center l (motions f) axis
-point_some center l f axis e r h k p q =
-    let n = length_first motion_of f.count f.pairs past6 k in
-    q ∙ ap (turn_point center l) p ∙ some_about center l (motions f) axis (omega arith)
+  pub point_some : (ps : List Eigen6) (e : List Float) (r : Vec Float) → 1 ≤ length ps → e ≡ most_about axis (get_or ps 0 past6).vector (map motion_of (take (length ps - 1) (drop 1 ps)))
+      → r ≡ turn_point center l e → r ≡ point_about center l (map motion_of ps) axis
+  unfolding turn_about
+  point_some [] e r h is_e is_r = absurd (omega arith)
+  point_some (p ∷ ps) e r h is_e is_r =
+      let rest = take_all (length (p ∷ ps) - 1) ps (omega arith) in
+      is_r ∙ ap (turn_point center l) (rw rest at is_e)
 
 -- the points of the turns about the first i axes
 abbrev pub points_to : Vec Float → Float → List (List Float) → List Vec3 → ℕ → List Vec3
 points_to center l free axes i = map vec3 (map (point_about center l free) (first i axes)) ++ replicate (3 - i) (vec3 zero_v)
 
-module _ (center : Vec Float) (l : Float) (free : List (List Float)) (axes : List Vec3) (long : length axes ≡ 3) where
-  length_points : (i : ℕ) → i ≤ 3 → length (map vec3 (map (point_about center l free) (first i axes))) ≡ i
+module _ (center : Vec Float) (l : Float) (free : List (List Float)) (axes : List Vec3) (few : length axes ≤ 3) where
+  length_points : (i : ℕ) → i ≤ length axes → length (map vec3 (map (point_about center l free) (first i axes))) ≡ i
   length_points i h =
       length-map (map (point_about center l free) (first i axes)) vec3 ∙ length-map (first i axes) (point_about center l free) ∙ length-map (take i axes) vec
       ∙ length-take-le i axes (omega arith)
 
-  pub length_points_to : (points : List Vec3) (i : ℕ) → i ≤ 3 → points ≡ points_to center l free axes i → length points ≡ 3
+  pub length_points_to : (points : List Vec3) (i : ℕ) → i ≤ length axes → points ≡ points_to center l free axes i → length points ≡ 3
   length_points_to points i h e =
       let n = length_points i h in
       ap length e ∙ length-append (map vec3 (map (point_about center l free) (first i axes))) (replicate (3 - i) (vec3 zero_v)) ∙ rw (length_points i h, length-replicate (3 - i) (vec3 zero_v)) (omega arith)
 
-  pub points_step : (points : List Vec3) (i : ℕ) (v : Vec3) → i < 3 → vec v ≡ point_about center l free (vec (get_or axes i past3)) → points ≡ points_to center l free axes i
+  pub points_step : (points : List Vec3) (i : ℕ) (v : Vec3) → i < length axes → vec v ≡ point_about center l free (vec (get_or axes i past3)) → points ≡ points_to center l free axes i
       → set points i v ≡ points_to center l free axes (i + 1)
   points_step points i v h e f =
       let x = point_about center l free (vec (get_or axes i past3)) in
@@ -182,7 +167,7 @@ module _ (center : Vec Float) (l : Float) (free : List (List Float)) (axes : Lis
       rw (
         f,
         g,
-        fill_step 3 i (map vec3 (map (point_about center l free) (first i axes))) (vec3 zero_v) (vec3 x) (length_points i (omega arith)) h,
+        fill_step 3 i (map vec3 (map (point_about center l free) (first i axes))) (vec3 zero_v) (vec3 x) (length_points i (omega arith)) (omega arith),
         add-one,
         take-suc axes i past3 (omega arith),
         map-append vec (take i axes) (get_or axes i past3 ∷ []),
@@ -190,11 +175,11 @@ module _ (center : Vec Float) (l : Float) (free : List (List Float)) (axes : Lis
         map-append vec3 (map (point_about center l free) (first i axes)) (x ∷ []),
       )
 
-  pub points_end : (points : List Vec3) (i k : ℕ) → k ≤ 3 → i ≡ k → points ≡ points_to center l free axes i → points ≡ three_of (map (point_about center l free) (first k axes))
-  points_end points i k h e f =
-      let n : length (map (point_about center l free) (first k axes)) ≡ k =
-      length-map (first k axes) (point_about center l free) ∙ length-map (take k axes) vec ∙ length-take-le k axes (omega arith) in
-      rw (n, ← e) f
+  pub points_end : (points : List Vec3) (i : ℕ) → i ≡ length axes → points ≡ points_to center l free axes i → points ≡ three_of (map (point_about center l free) (map vec axes))
+  points_end points i e f =
+      let n : length (map (point_about center l free) (map vec axes)) ≡ length axes =
+      length-map (map vec axes) (point_about center l free) ∙ length-map axes vec in
+      rw n (rw (e, take_all (length axes) axes (omega arith)) at f)
 
 -- ---- slides
 
@@ -212,18 +197,10 @@ unfolding lean_all apart
 apart_is v [] = refl
 apart_is v (u ∷ us) = ap (λ (b : Bool). lean (normalized v) u && b) (apart_is v us)
 
-module _ (k : ℕ) (vs : List Vec3) (fits : k ≤ length vs) (d : Vec Float) (i : ℕ) where
-  pub lean_step : i < k → lean d (vec (get_or vs i past3)) ≡ true → lean_all d (drop i (first k vs)) ≡ lean_all d (drop (i + 1) (first k vs))
-  unfolding lean_all
-  lean_step h e = rw (next vec k vs past3 fits i h, e)
-
-  pub lean_stop : i < k → lean d (vec (get_or vs i past3)) ≡ false → lean_all d (drop i (first k vs)) ≡ false
-  unfolding lean_all
-  lean_stop h e = rw (next vec k vs past3 fits i h, e)
-
-  pub lean_end : i ≡ k → lean_all d (drop i (first k vs)) ≡ true
-  unfolding lean_all
-  lean_end e = rw (none_left vec k vs past3 fits i e)
+pub lean_list : (d : Vec Float) (us : List Vec3) → list_all (λ u. lean d (vec u)) us ≡ lean_all d (map vec us)
+unfolding lean_all
+lean_list d [] = refl
+lean_list d (u ∷ us) = ap (λ (b : Bool). lean d (vec u) && b) (lean_list d us)
 
 vec_vec3 : (l : List (Vec Float)) → map vec (map vec3 l) ≡ l
 vec_vec3 [] = refl
@@ -263,30 +240,32 @@ module _ (b : Basis) (whole : b ≡ basis_of (basis b)) where
       ∙ ap (λ (t : Basis). record { count = t.count + 1; vectors = set t.vectors t.count (vec3 x) }) whole
       ∙ grown (basis b) x (omega arith)
 
-module _ (f : Free) (fits : f.count ≤ length f.pairs) (slides : List (Vec Float)) (i : ℕ) where
-  pub extra_step : i < f.count → is_extra slides (slide_part (get_or f.pairs i past6).vector) ≡ false
-      → extra_slide slides (drop i (motions f)) ≡ extra_slide slides (drop (i + 1) (motions f))
+module _ (ps : List Eigen6) (slides : List (Vec Float)) (i : ℕ) where
+  pub extra_step : i < length ps → is_extra slides (slide_part (get_or ps i past6).vector) ≡ false
+      → extra_slide slides (map motion_of (drop i ps)) ≡ extra_slide slides (map motion_of (drop (i + 1) ps))
   unfolding extra_slide
-  extra_step h e = rw (next motion_of f.count f.pairs past6 fits i h, e)
+  extra_step h e = rw (add-one, drop-cons ps i past6 h, e)
 
-  pub extra_found : i < f.count → is_extra slides (slide_part (get_or f.pairs i past6).vector) ≡ true
-      → extra_slide slides (drop i (motions f)) ≡ some (slide_part (get_or f.pairs i past6).vector)
+  extra_found : i < length ps → is_extra slides (slide_part (get_or ps i past6).vector) ≡ true
+      → extra_slide slides (map motion_of (drop i ps)) ≡ some (slide_part (get_or ps i past6).vector)
   unfolding extra_slide
-  extra_found h e = rw (next motion_of f.count f.pairs past6 fits i h, e)
+  extra_found h e = rw (drop-cons ps i past6 h, e)
 
-  pub extra_end : i ≡ f.count → extra_slide slides (drop i (motions f)) ≡ none
+  extra_end : length ps ≤ i → extra_slide slides (map motion_of (drop i ps)) ≡ none
   unfolding extra_slide
-  extra_end e = rw (none_left motion_of f.count f.pairs past6 fits i e)
+  extra_end h = rw (drop_of_length-le ps h)
 
-  pub extra_joined : (v : Vec Float) → i < f.count → v ≡ slide_part (get_or f.pairs i past6).vector → is_extra slides (slide_part (get_or f.pairs i past6).vector) ≡ true
-      → extra_slide slides (drop i (motions f)) ≡ extra_slide slides (motions f) → basis_of (slides ++ (normalized v ∷ [])) ≡ basis_of (join_slide slides (extra_slide slides (motions f)))
+  pub extra_joined : (v : Vec Float) → i < length ps → v ≡ slide_part (get_or ps i past6).vector → is_extra slides (slide_part (get_or ps i past6).vector) ≡ true
+      → extra_slide slides (map motion_of (drop i ps)) ≡ extra_slide slides (map motion_of ps)
+      → basis_of (slides ++ (normalized v ∷ [])) ≡ basis_of (join_slide slides (extra_slide slides (map motion_of ps)))
   unfolding join_slide
   extra_joined v h e test g =
       ap (λ (u : Vec Float). basis_of (slides ++ (normalized u ∷ []))) e ∙ ap (λ (o : Option (Vec Float)). basis_of (join_slide slides o)) (sym (extra_found h test) ∙ g)
 
-  pub extra_none : i ≡ f.count → extra_slide slides (drop i (motions f)) ≡ extra_slide slides (motions f) → basis_of slides ≡ basis_of (join_slide slides (extra_slide slides (motions f)))
+  pub extra_none : length ps ≤ i → extra_slide slides (map motion_of (drop i ps)) ≡ extra_slide slides (map motion_of ps)
+      → basis_of slides ≡ basis_of (join_slide slides (extra_slide slides (map motion_of ps)))
   unfolding join_slide
-  extra_none e g = ap (λ (o : Option (Vec Float)). basis_of (join_slide slides o)) (sym (extra_end e) ∙ g)
+  extra_none h g = ap (λ (o : Option (Vec Float)). basis_of (join_slide slides o)) (sym (extra_end h) ∙ g)
 
 -- ---- slides filled up
 

@@ -6,9 +6,9 @@ use mathlib.Core.List.{List, [], ◌∷◌, ◌++◌, map}
 use Prim.Native.Nat.{ℕ, zero, suc, ◌+◌, ◌*◌, ◌≤◌, ◌<◌}
 use native.Mathlib.Omega.{arith}
 use native.Mathlib.Numerals.{add-one}
-use native.Mathlib.Nat.{not-suc-le-zero, mul-le-mul, mul-le-mul_right, mul_comm}
+use native.Mathlib.Nat.{not-suc-le-zero, mul-le-mul_right, mul_comm}
 use lib.ListN.{length, get_or, set, drop, length-append, length-map}
-use lib.Ieee.{Float, nan, binary64, add, sub, mul, div}
+use lib.Ieee.{Float, nan, binary64, add, sub, mul}
 use Rattle.numbers.specs.Double.{zero64}
 use Rattle.spans.specs.Flat.{flat_to, flat}
 use Rattle.relations.specs.Geometry.{Pose}
@@ -19,7 +19,7 @@ use Rattle.records.specs.Record.{body_at, rel_at}
 use Rattle.scene.specs.Scene.{scene_in}
 use Rattle.least_squares.specs.Lm.{list_of, table_of, step_of, slope_of, ahead, behind, slope, jacobian}
 use Rattle.least_squares.specs.Memory.{part, Kept}
-use Rattle.scene.specs.Solve.{Scene, names, named, moves, layout_from, unknowns_in, three, moved_pose, rows_at, all_rows, half_size}
+use Rattle.scene.specs.Solve.{Scene, names, named, moves, layout_from, unknowns_in, rows_at, all_rows, half_size}
 use Rattle.scene.specs.Scene.{scene_of, Laid, pose_doubles, poses_doubles, pose_in, poses_in, Put}
 use Rattle.body_freedom.specs.Dof.{rels_of, with_body, body_rows, zeros, columns_times, square_of}
 use Rattle.scene.specs.declared.scene.Scene.{Scene as SceneStruct}
@@ -35,10 +35,6 @@ use Rattle.body_freedom.specs.BodySlopes.{body_parts, BodyApart, starts, shifted
 use Rattle.body_freedom.specs.declared.body_slopes.BodyParts.{BodyParts as BodyPartsStruct}
 
 -- ---- where the parts stand
-
--- of so many rows and unknowns there are few slopes
-pub few_slopes : (c : SceneStruct) → c.rows ≤ 896 → c.n ≤ 384 → c.rows * c.n ≤ 344064
-few_slopes c h l = mul-le-mul h l
 
 -- each part from where the last ended: no part reaches into the next
 pub body_apart : (c : SceneStruct) (p : BodyPartsStruct) (size : ℕ) → p ≡ body_parts c → (body_parts c).poses + 12 * c.m ≤ size → BodyApart c p size
@@ -78,12 +74,6 @@ starts_there sheet c s t p y =
     poses_there t p (12 * c.m) (starts (scene_of sheet c)) y.holds (ap (λ (w : ℕ). 12 * w) l) c.m l
 
 -- ---- what single functions need
-
-pub shifted_is : (b : Body) (x : List Float) (l : Float) (q : Pose Float) → l ≡ half_size b.size
-    → q ≡ moved_pose b (three x 0) (record { x = div binary64 (get_or x 3 nan) l; y = div binary64 (get_or x 4 nan) l; z = div binary64 (get_or x 5 nan) l }) → q ≡ shifted b x
-shifted_is b x l q e f =
-    f
-    ∙ ap (λ (w : Float). moved_pose b (three x 0) (record { x = div binary64 (get_or x 3 nan) w; y = div binary64 (get_or x 4 nan) w; z = div binary64 (get_or x 5 nan) w })) e
 
 pub put_as : (s t : List Float) (o : ℕ) (q w : Pose Float) → q ≡ w → Put s t o 12 (pose_doubles q) → Put s t o 12 (pose_doubles w)
 put_as s t o q w e y = subst (λ (v : Pose Float). Put s t o 12 (pose_doubles v)) e y

@@ -1,6 +1,6 @@
 -- `body_dof` of solve.rs from its six-by-six matrix on, and the arrays that the code holds its lists in: the first so many entries count, unused ones are zero.
 -- Document 01, "The train of files", item 6. Definitions only.
-use Rattle.std.specs.Prelude.{ℕ, ◌-◌, Bool, ◌&&◌, List, [], ◌∷◌, ◌++◌, map, length, take, drop, get_or, replicate, Float}
+use Rattle.std.specs.Prelude.{ℕ, ◌-◌, Bool, ◌&&◌, List, [], ◌∷◌, ◌++◌, map, length, take, get_or, replicate, Float}
 use Rattle.std.specs.Float.{binary64}
 use Rattle.std.specs.Float.Ieee.{lt, of_bits}
 use Rattle.vectors.specs.declared.vec.Vec3.{Vec3}
@@ -10,9 +10,8 @@ use Rattle.eigen.specs.Eigen.{Eigen, sym_eigen}
 use Rattle.spans.specs.Span.{span_basis}
 use Rattle.spans.specs.Basis.{vec3, basis_of, past3}
 use Rattle.scene.specs.Scene.{vec_doubles}
-use Rattle.body_freedom.specs.Dof.{Turn, Freedom, top, free_of, slide_part, turn_part, most_about, turn_about, apart, fill_slides, corner, SPAN}
+use Rattle.body_freedom.specs.Dof.{Turn, Freedom, top, free_of, slide_part, turn_part, turn_about, apart, fill_slides, corner, SPAN}
 use Rattle.body_freedom.specs.Layout.{count_double}
-use Rattle.body_freedom.specs.declared.body.Free.{Free}
 use Rattle.body_freedom.specs.declared.body.Freedom.{Freedom as FreedomStruct}
 
 -- `body_dof` from the square of the slopes on
@@ -36,14 +35,6 @@ eigens_of n e = map eigen_of (take n e)
 
 abbrev pub motion_of : Eigen6 → List Float
 motion_of e = e.vector
-
--- the free motions that an array holds
-abbrev pub motions : Free → List (List Float)
-motions f = map motion_of (take f.count f.pairs)
-
--- the motion that turns most about an axis
-abbrev pub most_of : Vec Float → List (List Float) → List Float
-most_of axis free = most_about axis (get_or free 0 []) (drop 1 free)
 
 -- the point of the turn about an axis
 abbrev pub point_about : Vec Float → Float → List (List Float) → Vec Float → Vec Float

@@ -1,11 +1,12 @@
 // `body_dof` of solve.rs from its six-by-six matrix on: the motions that nothing resists, split into slides and turns. `specs/BodyFreedom.antt` has the definitions.
 
-ghost use Rattle.std.specs.Prelude.{◌≡◌, cond, [], ◌∷◌, ◌++◌, map, ◌+◌, ◌<◌, ◌≤◌, length};
+ghost use Rattle.std.specs.Prelude.{◌≡◌, cond, [], ◌∷◌, ◌++◌, map, ◌+◌, ◌<◌, ◌≤◌, length, take};
 ghost use Rattle.numbers.specs.Double.{zero64, before};
 ghost use Rattle.vectors.specs.Vec.{vec, normalized};
 ghost use Rattle.spans.specs.Basis.{first, basis, basis_of};
 ghost use Rattle.spans.specs.Flat.{flat};
 ghost use Rattle.scene.specs.Scene.{Put, vec_doubles};
+ghost use Rattle.scene.specs.Solve.{three};
 ghost use Rattle.body_freedom.specs.Dof as dof;
 ghost use Rattle.body_freedom.specs.Layout.{count_double, freedom_doubles};
 ghost use Rattle.body_freedom.specs.BodyFreedom as spec;
@@ -21,6 +22,7 @@ use vectors::{root, tol};
 struct Free {
     count: usize,
     pairs: [Eigen6; 6],
+    ghost within: { count ≤ 6 },
 }
 
 // Slides, and turns: axes with a point of each. Unused vectors are zero.
@@ -35,12 +37,7 @@ pub struct Freedom {
 fn largest_value(e: [Eigen6; 6]) -> f64
     ensures { result ≡ dof.largest_value zero64 (spec.eigens_of 6 e) }
 {
-    let mut m = 0.0;
-    for i in 0..6 {
-        let p = e[i];
-        m = numbers::max(m, p.value);
-    }
-    m
+    e.iter().fold(0.0, |m, p| numbers::max(m, p.value))
 }
 
 // How hard the stiffest motion is resisted.
@@ -51,93 +48,37 @@ fn top(e: [Eigen6; 6]) -> f64
 }
 
 // Whether a motion of eigenvalue v is resisted by next to nothing of `most`.
+#[tactic(auto, unfolding(crate::specs::Dof::is_free))]
 fn is_free(most: f64, v: f64) -> bool
     ensures { result ≡ dof.is_free most v }
 {
     most <= 0.0 || root::sqrt(numbers::max(v, 0.0)) <= tol::DOF_REL * most
 }
 
-// The pair joins if its motion is free.
-fn with_free(f: Free, p: Eigen6, most: f64) -> Free
-    requires { f.count < 6 }
-    ensures { (result.count ≤ f.count + 1) × (spec.motions result ≡ cond (dof.is_free most p.value) (spec.motions f ++ (p.vector ∷ [])) (spec.motions f)) }
+// The three entries of a motion from o on.
+fn part_at(e: [f64; 6], o: usize) -> Vec3
+    requires { o ≤ 3 }
+    ensures { vec result ≡ three e o }
 {
-    if is_free(most, p.value) {
-        let count = f.count;
-        let mut pairs = f.pairs;
-        pairs[count] = p;
-        return Free {
-            count: count + 1,
-            pairs,
-        };
+    Vec3 {
+        x: e[o],
+        y: e[o + 1],
+        z: e[o + 2],
     }
-    f
-}
-
-// The free motions among the first n pairs.
-fn free_of(e: [Eigen6; 6], n: usize, most: f64) -> Free
-    requires { n ≤ 6 }
-    ensures { (result.count ≤ n) × (spec.motions result ≡ dof.free_of most (spec.eigens_of n e)) }
-{
-    let mut f = Free { count: 0, pairs: e };
-    for i in 0..n {
-        let p = e[i];
-        let g = with_free(f, p, most);
-        f = g;
-    }
-    f
 }
 
 // The sliding part of a motion.
 fn slide_part(e: [f64; 6]) -> Vec3
     ensures { vec result ≡ dof.slide_part e }
 {
-    Vec3 {
-        x: e[0],
-        y: e[1],
-        z: e[2],
-    }
+    part_at(e, 0)
 }
 
 // The turning part of a motion.
 fn turn_part(e: [f64; 6]) -> Vec3
     ensures { vec result ≡ dof.turn_part e }
 {
-    Vec3 {
-        x: e[3],
-        y: e[4],
-        z: e[5],
-    }
-}
-
-fn slide_parts(f: Free) -> [Vec3; 6]
-    requires { f.count ≤ 6 }
-    ensures { first f.count result ≡ map dof.slide_part (spec.motions f) }
-{
-    let count = f.count;
-    let pairs = f.pairs;
-    let mut parts = [Vec3::ZERO; 6];
-    for i in 0..count {
-        let p = pairs[i];
-        let e = p.vector;
-        parts[i] = slide_part(e);
-    }
-    parts
-}
-
-fn turn_parts(f: Free) -> [Vec3; 6]
-    requires { f.count ≤ 6 }
-    ensures { first f.count result ≡ map dof.turn_part (spec.motions f) }
-{
-    let count = f.count;
-    let pairs = f.pairs;
-    let mut parts = [Vec3::ZERO; 6];
-    for i in 0..count {
-        let p = pairs[i];
-        let e = p.vector;
-        parts[i] = turn_part(e);
-    }
-    parts
+    part_at(e, 3)
 }
 
 // How much a motion turns about an axis.
@@ -158,19 +99,13 @@ fn turning_more(axis: Vec3, best: [f64; 6], e: [f64; 6]) -> [f64; 6]
     }
 }
 
-// The motion that turns most about an axis, the last of equals.
-fn most_about(f: Free, axis: Vec3) -> [f64; 6]
-    requires { (0 < f.count) × (f.count ≤ 6) }
-    ensures { result ≡ spec.most_of (vec axis) (spec.motions f) }
+// The motion that turns most about an axis, `first` or one of the others; the last of equals.
+fn most_about(axis: Vec3, first: [f64; 6], others: &[Eigen6]) -> [f64; 6]
+    ensures { result ≡ dof.most_about (vec axis) first (map spec.motion_of others.now) }
 {
-    let count = f.count;
-    let pairs = f.pairs;
-    let p = pairs[0];
-    let mut best = p.vector;
-    for i in 1..count {
-        let q = pairs[i];
-        let e = q.vector;
-        let b = turning_more(axis, best, e);
+    let mut best = first;
+    for p in others {
+        let b = turning_more(axis, best, p.vector);
         best = b;
     }
     best
@@ -180,41 +115,13 @@ fn most_about(f: Free, axis: Vec3) -> [f64; 6]
 fn turn_point(center: Vec3, l: f64, e: [f64; 6]) -> Vec3
     ensures { vec result ≡ dof.turn_point (vec center) l e }
 {
-    let w = turn_part(e).scale(1.0 / l);
+    let w = turn_part(e) * (1.0 / l);
     let w2 = w.dot(w);
     if 0.0 < w2 {
-        center.add(w.cross(slide_part(e)).scale(1.0 / w2))
+        center + w.cross(slide_part(e)) * (1.0 / w2)
     } else {
         center
     }
-}
-
-// A point of the turn about an axis.
-fn point_about(f: Free, axis: Vec3, center: Vec3, l: f64) -> Vec3
-    requires { f.count ≤ 6 }
-    ensures { vec result ≡ spec.point_about (vec center) l (spec.motions f) (vec axis) }
-{
-    let count = f.count;
-    if count == 0 {
-        return center;
-    }
-    let e = most_about(f, axis);
-    turn_point(center, l, e)
-}
-
-// A point of the turn about each axis.
-fn points_of(f: Free, axes: Basis, center: Vec3, l: f64) -> [Vec3; 3]
-    requires { (f.count ≤ 6) × (axes.count ≤ 3) }
-    ensures { result ≡ spec.three_of (map (spec.point_about (vec center) l (spec.motions f)) (basis axes)) }
-{
-    let count = axes.count;
-    let vectors = axes.vectors;
-    let mut points = [Vec3::ZERO; 3];
-    for i in 0..count {
-        let axis = vectors[i];
-        points[i] = point_about(f, axis, center, l);
-    }
-    points
 }
 
 // Whether v is no direction of `slides`: below 0.99 along each.
@@ -222,16 +129,10 @@ fn apart(v: Vec3, slides: Basis) -> bool
     requires { slides.count ≤ 3 }
     ensures { result ≡ dof.apart (vec v) (basis slides) }
 {
-    let count = slides.count;
-    let vectors = slides.vectors;
     let d = v.normalized();
-    for i in 0..count {
-        let u = vectors[i];
-        if !(numbers::abs(d.dot(u)) < 0.99) {
-            return false;
-        }
-    }
-    true
+    slides.vectors[..slides.count]
+        .iter()
+        .all(|&u| numbers::abs(d.dot(u)) < 0.99)
 }
 
 // Whether v is a slide of its own.
@@ -255,40 +156,110 @@ fn push_slide(slides: Basis, v: Vec3) -> Basis
     }
 }
 
-// The slides with the first motion's that is one of its own.
-fn with_extra(slides: Basis, f: Free) -> Basis
-    requires { (slides ≡ basis_of (basis slides)) × (slides.count < 3) × (f.count ≤ 6) }
-    ensures { result ≡ basis_of (dof.join_slide (basis slides) (dof.extra_slide (basis slides) (spec.motions f))) }
-{
-    let count = f.count;
-    let pairs = f.pairs;
-    for i in 0..count {
-        let p = pairs[i];
-        let e = p.vector;
-        let v = slide_part(e);
-        if is_extra(slides, v) {
-            return push_slide(slides, v);
-        }
-    }
-    slides
-}
+impl Free {
+    ghost use Rattle.body_freedom.specs.Motions.{motions};
 
-// Motions that neither slide purely nor turn are screw-like: they count as slides, up to three.
-fn fill_slides(slides: Basis, f: Free, turns: usize) -> Basis
-    requires { (slides ≡ basis_of (basis slides)) × (turns ≤ 3) × (f.count ≤ 6) }
-    ensures { result ≡ basis_of (dof.fill_slides (spec.motions f) turns 3 (basis slides)) }
-{
-    let free = f.count;
-    let mut out = slides;
-    for k in 0usize..3 {
-        let count = out.count;
-        if free <= count + turns || 3 <= count {
-            return out;
-        }
-        let b = with_extra(out, f);
-        out = b;
+    // No motion; what the array holds is open.
+    fn none(pairs: [Eigen6; 6]) -> Free
+        ensures { result.count ≡ 0 }
+    {
+        Free { count: 0, pairs }
     }
-    out
+
+    // The free motions among the first n pairs.
+    fn of(e: [Eigen6; 6], n: usize, most: f64) -> Free
+        requires { n ≤ 6 }
+        ensures { motions result ≡ dof.free_of most (spec.eigens_of n e) }
+    {
+        let mut f = Free::none(e);
+        for &p in &e[..n] {
+            f = f.with(p, most);
+        }
+        f
+    }
+
+    // The pair joins if its motion is free.
+    fn with(mut self, p: Eigen6, most: f64) -> Free
+        requires { self.count < 6 }
+        ensures few { result.count ≤ self.count + 1 }
+        ensures joined { motions result ≡ cond (dof.is_free most p.value) (motions self ++ (p.vector ∷ [])) (motions self) }
+    {
+        if is_free(most, p.value) {
+            self.pairs[self.count] = p;
+            self.count += 1;
+        }
+        self
+    }
+
+    // The pairs of the free motions.
+    fn free_pairs(&self) -> &[Eigen6]
+        ensures { result.now ≡ take self.now.count self.now.pairs }
+    {
+        &self.pairs[..self.count]
+    }
+
+    // The parts of the free motions from their entry o on: the sliding parts from 0, the turning parts from 3.
+    fn parts_at(self, o: usize) -> [Vec3; 6]
+        requires { o ≤ 3 }
+        ensures { first self.count result ≡ map (λ e. three e o) (motions self) }
+    {
+        let mut parts = [Vec3::ZERO; 6];
+        for (i, p) in self.free_pairs().iter().enumerate() {
+            parts[i] = part_at(p.vector, o);
+        }
+        parts
+    }
+
+    // A point of the turn about an axis, on the line of the motion that turns most about it; the centre where there is no motion.
+    fn point_about(self, axis: Vec3, center: Vec3, l: f64) -> Vec3
+        ensures { vec result ≡ spec.point_about (vec center) l (motions self) (vec axis) }
+    {
+        match self.free_pairs() {
+            [] => center,
+            [p, others @ ..] => turn_point(center, l, most_about(axis, p.vector, others)),
+        }
+    }
+
+    // A point of the turn about each axis.
+    fn points_of(self, axes: Basis, center: Vec3, l: f64) -> [Vec3; 3]
+        requires { axes.count ≤ 3 }
+        ensures { result ≡ spec.three_of (map (spec.point_about (vec center) l (motions self)) (basis axes)) }
+    {
+        let mut points = [Vec3::ZERO; 3];
+        for (i, &axis) in axes.vectors[..axes.count].iter().enumerate() {
+            points[i] = self.point_about(axis, center, l);
+        }
+        points
+    }
+
+    // The slides with the first motion's that is one of its own.
+    fn with_extra(self, slides: Basis) -> Basis
+        requires { (slides ≡ basis_of (basis slides)) × (slides.count < 3) }
+        ensures { result ≡ basis_of (dof.join_slide (basis slides) (dof.extra_slide (basis slides) (motions self))) }
+    {
+        for p in self.free_pairs() {
+            let v = slide_part(p.vector);
+            if is_extra(slides, v) {
+                return push_slide(slides, v);
+            }
+        }
+        slides
+    }
+
+    // Motions that neither slide purely nor turn are screw-like: they count as slides, up to three.
+    fn fill_slides(self, slides: Basis, turns: usize) -> Basis
+        requires { (slides ≡ basis_of (basis slides)) × (turns ≤ 3) }
+        ensures { result ≡ basis_of (dof.fill_slides (motions self) turns 3 (basis slides)) }
+    {
+        let mut out = slides;
+        for k in 0usize..3 {
+            if self.count <= out.count + turns || 3 <= out.count {
+                return out;
+            }
+            out = self.with_extra(out);
+        }
+        out
+    }
 }
 
 // What a body may do, from the square `a` of the slopes along its six unknowns, the turning ones scaled by l.
@@ -297,12 +268,12 @@ pub fn body_dof(a: [[f64; 6]; 6], center: Vec3, l: f64) -> Freedom
 {
     let pairs = sym_eigen(a, 6);
     let most = top(pairs);
-    let free = free_of(pairs, 6, most);
-    let axes = span_basis(turn_parts(free), free.count, 1e-6);
-    let pure = free_of(sym_eigen(a, 3), 3, most);
-    let straight = span_basis(slide_parts(pure), pure.count, 1e-6);
-    let slides = fill_slides(straight, free, axes.count);
-    let points = points_of(free, axes, center, l);
+    let free = Free::of(pairs, 6, most);
+    let axes = span_basis(free.parts_at(3), free.count, 1e-6);
+    let pure = Free::of(sym_eigen(a, 3), 3, most);
+    let straight = span_basis(pure.parts_at(0), pure.count, 1e-6);
+    let slides = free.fill_slides(straight, axes.count);
+    let points = free.points_of(axes, center, l);
     Freedom {
         slides,
         axes,
@@ -314,9 +285,7 @@ fn put_three(s: &mut [f64], o: usize, vs: [Vec3; 3])
     requires { o + 9 ≤ length s.old }
     ensures { Put s.old s.new o 9 (spec.three_doubles vs) }
 {
-    let a = vs[0];
-    let b = vs[1];
-    let c = vs[2];
+    let [a, b, c] = vs;
     put_vec(s, o, a);
     put_vec(s, o + 3, b);
     put_vec(s, o + 6, c);
@@ -334,31 +303,24 @@ fn put_turns(s: &mut [f64], o: usize, axes: [Vec3; 3], points: [Vec3; 3])
     requires { o + 18 ≤ length s.old }
     ensures { Put s.old s.new o 18 (spec.turn_doubles axes points) }
 {
-    let a = axes[0];
-    let b = axes[1];
-    let c = axes[2];
-    let p = points[0];
-    let q = points[1];
-    let r = points[2];
+    let [a, b, c] = axes;
+    let [p, q, r] = points;
     put_turn(s, o, a, p);
     put_turn(s, o + 6, b, q);
     put_turn(s, o + 12, c, r);
 }
 
 // A count, at most three, as a double.
+#[tactic(auto, using(crate::proofs::BodyLaws::count_many), unfolding(crate::specs::Layout::count_double))]
 fn count_double(n: usize) -> f64
     ensures { result ≡ count_double n }
 {
-    if n == 0 {
-        return 0.0;
+    match n {
+        0 => 0.0,
+        1 => 1.0,
+        2 => 2.0,
+        _ => 3.0,
     }
-    if n == 1 {
-        return 1.0;
-    }
-    if n == 2 {
-        return 2.0;
-    }
-    3.0
 }
 
 fn put_counts(s: &mut [f64], o: usize, slides: usize, turns: usize)
@@ -374,14 +336,9 @@ pub fn put_freedom(s: &mut [f64], o: usize, f: Freedom)
     requires { o + 29 ≤ length s.old }
     ensures { Put s.old s.new o 29 (spec.struct_doubles f) }
 {
-    let slides = f.slides;
-    let axes = f.axes;
-    let points = f.points;
-    let lines = slides.vectors;
-    let directions = axes.vectors;
-    put_counts(s, o, slides.count, axes.count);
-    put_three(s, o + 2, lines);
-    put_turns(s, o + 11, directions, points);
+    put_counts(s, o, f.slides.count, f.axes.count);
+    put_three(s, o + 2, f.slides.vectors);
+    put_turns(s, o + 11, f.axes.vectors, f.points);
 }
 
 // The 29 doubles of a fixed body: it may do nothing.

@@ -7,7 +7,8 @@ ghost use Rattle.relations.specs.Model.{body_of, pose_of_frame, pose};
 ghost use Rattle.records.specs.Record as format;
 ghost use Rattle.least_squares.specs.Filled.{Filled, FiniteAt};
 ghost use Rattle.least_squares.specs.Lm as lm;
-ghost use Rattle.scene.specs.Scene.{Laid, scene_of, pose_doubles, poses_doubles, poses_in, Put};
+ghost use Rattle.scene.specs.Scene.{pose_doubles, poses_doubles, poses_in, Put};
+ghost use Rattle.scene.specs.Sheet.{sheet_scene};
 ghost use Rattle.slopes.specs.Moved.{Room};
 ghost use Rattle.body_freedom.specs.Dof.{columns_times, square_of, zeros};
 ghost use Rattle.body_freedom.specs.BodySlopes as spec;
@@ -15,9 +16,9 @@ ghost use Rattle.body_freedom.specs.BodySlopes as spec;
 use crate::square::columns_times;
 use judging::count::row_count;
 use least_squares::zeros::filled;
-use records::record::{body_at, rel_at};
+use records::record::rel_at;
 use relations::model::{Body, Pose};
-use scene::scene::{Scene, half_size, moved_pose, names, put_pose};
+use scene::scene::{Sheet, half_size, moved_pose, names, put_pose};
 use slopes::moved::rel_columns;
 use slopes::slopes::step_of;
 use vectors::vec::Vec3;
@@ -29,35 +30,32 @@ pub struct BodyParts {
 }
 
 // The parts, each from where the last ended.
-pub fn body_parts(scene: Scene) -> BodyParts
-    requires { (scene.rows ≤ 896) × (scene.n ≤ 384) }
-    ensures { result ≡ spec.body_parts scene }
+pub fn body_parts(sheet: Sheet) -> BodyParts
+    ensures { result ≡ spec.body_parts sheet.entry.scene }
 {
-    let poses = scene.rows * scene.n;
+    let poses = sheet.scene.rows * sheet.scene.n;
     BodyParts { poses }
 }
 
 // The pose of body i's own frame, to place o.
-fn put_start(sheet: &[u8], scene: Scene, s: &mut [f64], o: usize, i: usize)
-    requires laid { Laid sheet.now scene }
-    requires i_lt_m { i < scene.m }
+fn put_start(sheet: Sheet, s: &mut [f64], o: usize, i: usize)
+    requires i_lt_m { i < sheet.scene.m }
     requires o_in_bounds { o + 12 ≤ length s.old }
-    ensures { Put s.old s.new o 12 (pose_doubles (pose_of_frame (format.body_at sheet.now (scene.bodies + 136 * i)).frame)) }
+    ensures { Put s.old s.new o 12 (pose_doubles (pose_of_frame (format.body_at sheet.entry.bytes.now (sheet.entry.scene.bodies + 136 * i)).frame)) }
 {
-    let b = body_at(sheet, scene.bodies + 136 * i);
+    let b = sheet.body(i);
     let f = b.frame;
     put_pose(s, o, Pose::of(f));
 }
 
 // The poses of the bodies' own frames, to place p.
-pub fn put_starts(sheet: &[u8], scene: Scene, s: &mut [f64], p: usize)
-    requires laid { Laid sheet.now scene }
-    requires m_in_bounds { p + 12 * scene.m ≤ length s.old }
-    ensures { Put s.old s.new p (12 * scene.m) (poses_doubles (spec.starts (scene_of sheet.now scene))) }
+pub fn put_starts(sheet: Sheet, s: &mut [f64], p: usize)
+    requires m_in_bounds { p + 12 * sheet.scene.m ≤ length s.old }
+    ensures { Put s.old s.new p (12 * sheet.entry.scene.m) (poses_doubles (spec.starts (sheet_scene sheet.entry))) }
 {
-    let m = scene.m;
+    let m = sheet.scene.m;
     for i in 0..m {
-        put_start(sheet, scene, s, p + 12 * i, i);
+        put_start(sheet, s, p + 12 * i, i);
     }
 }
 
@@ -80,6 +78,7 @@ fn shifted(b: Body, x: [f64; 6]) -> Pose
 }
 
 // Six unknowns, of which c is v and the others are 0.
+#[tactic(auto, unfolding(least_squares::specs::Lm::list_of))]
 fn one_unknown(c: usize, v: f64) -> [f64; 6]
     requires { c < 6 }
     ensures { result ≡ set (zeros 6) c v }
@@ -111,6 +110,7 @@ pub fn moved_poses(b: Body, moved: &mut [f64])
 }
 
 // The steps of six unknowns that are 0.
+#[tactic(auto, unfolding(least_squares::specs::Lm::list_of))]
 pub fn six_steps() -> [f64; 6]
     ensures { result ≡ spec.six_steps }
 {
@@ -144,27 +144,25 @@ fn named_slopes(
 
 // The slopes of the rows of the relations that name body i, six to a row from place 0 on; how many rows there are. Each relation is read once.
 fn slopes_on(
-    sheet: &[u8],
-    scene: Scene,
+    sheet: Sheet,
     s: &mut [f64],
     p: usize,
     i: usize,
     moved: &[f64],
     steps: [f64; 6],
 ) -> usize
-    requires laid { Laid sheet.now scene }
-    requires room { Room s.old moved.now p scene.m i 0 6 (length (spec.rows_on (scene_of sheet.now scene) i (poses_in s.old p scene.m))) }
-    ensures { spec.SlopesOn (scene_of sheet.now scene) s.old s.new moved.now steps p scene.m i result }
+    requires room { Room s.old moved.now p sheet.scene.m i 0 6 (length (spec.rows_on (sheet_scene sheet) i (poses_in s.old p sheet.scene.m))) }
+    ensures { spec.SlopesOn (sheet_scene sheet.entry) s.old s.new moved.now steps p sheet.entry.scene.m i result }
 {
-    let k = scene.k;
+    let k = sheet.scene.k;
     let mut row = 0;
     for j in 0..k {
         row = named_slopes(
-            sheet,
-            scene.rels + 264 * j,
+            sheet.bytes,
+            sheet.scene.rels + 264 * j,
             s,
             p,
-            scene.m,
+            sheet.scene.m,
             i,
             moved,
             steps,
@@ -175,20 +173,20 @@ fn slopes_on(
 }
 
 // The slopes of body i's rows, six to a row, to the places from 0 on; how many rows there are.
-fn body_slopes(sheet: &[u8], scene: Scene, s: &mut [f64], i: usize, parts: BodyParts) -> usize
-    requires laid { Laid sheet.now scene }
-    requires i_lt_m { i < scene.m }
-    requires body_apart { spec.BodyApart scene parts (length s.old) }
-    requires m_len_bound { length (spec.rows_on (scene_of sheet.now scene) i (poses_in s.old parts.poses scene.m)) * 6 ≤ parts.poses }
-    ensures { spec.BodySlopes (scene_of sheet.now scene) s.old s.new parts.poses scene.m i (format.body_at sheet.now (scene.bodies + 136 * i)) result }
+fn body_slopes(sheet: Sheet, s: &mut [f64], i: usize, parts: BodyParts) -> usize
+    requires i_lt_m { i < sheet.scene.m }
+    requires body_apart { spec.BodyApart sheet.scene parts (length s.old) }
+    requires m_len_bound { length (spec.rows_on (sheet_scene sheet) i (poses_in s.old parts.poses sheet.scene.m)) * 6 ≤ parts.poses }
+    ensures { spec.BodySlopes (sheet_scene sheet.entry) s.old s.new parts.poses sheet.entry.scene.m i (format.body_at sheet.entry.bytes.now (sheet.entry.scene.bodies + 136 * i)) result }
 {
-    let b = body_at(sheet, scene.bodies + 136 * i);
+    let b = sheet.body(i);
     let mut moved = [0.0; 144];
     moved_poses(b, &mut moved);
-    slopes_on(sheet, scene, s, parts.poses, i, &moved, six_steps())
+    slopes_on(sheet, s, parts.poses, i, &moved, six_steps())
 }
 
 // The six entries of row i, the rows in which column i is no zero listed.
+#[tactic(auto, unfolding(least_squares::specs::Lm::list_of))]
 fn row_entries(s: &[f64], rows: usize, i: usize, list: &[usize], count: usize) -> [f64; 6]
     requires i_bound { i < 6 }
     requires rows_in_bounds { rows * 6 ≤ length s.now }
@@ -237,20 +235,12 @@ fn square(s: &[f64], rows: usize) -> [[f64; 6]; 6]
 }
 
 // The six by six of body i's slopes, the bodies standing at their frames; s is lent from the slopes on. What stands in the places of slopes afterwards is open: they are scratch.
-pub fn body_square(
-    sheet: &[u8],
-    scene: Scene,
-    s: &mut [f64],
-    i: usize,
-    parts: BodyParts,
-) -> [[f64; 6]; 6]
-    requires laid { Laid sheet.now scene }
-    requires i_lt_m { (i < scene.m) × ((format.body_at sheet.now (scene.bodies + 136 * i)).fixed ≡ false) }
-    requires body_apart { spec.BodyApart scene parts (length s.old) }
-    requires m_value { poses_in s.old parts.poses scene.m ≡ spec.starts (scene_of sheet.now scene) }
-    requires rows_bound { scene.rows ≤ 896 }
-    ensures { spec.BodySquare (scene_of sheet.now scene) s.old s.new parts.poses scene.m i (format.body_at sheet.now (scene.bodies + 136 * i)) result }
+pub fn body_square(sheet: Sheet, s: &mut [f64], i: usize, parts: BodyParts) -> [[f64; 6]; 6]
+    requires i_lt_m { (i < sheet.scene.m) × ((format.body_at sheet.bytes.now (sheet.scene.bodies + 136 * i)).fixed ≡ false) }
+    requires body_apart { spec.BodyApart sheet.scene parts (length s.old) }
+    requires m_value { poses_in s.old parts.poses sheet.scene.m ≡ spec.starts (sheet_scene sheet) }
+    ensures { spec.BodySquare (sheet_scene sheet.entry) s.old s.new parts.poses sheet.entry.scene.m i (format.body_at sheet.entry.bytes.now (sheet.entry.scene.bodies + 136 * i)) result }
 {
-    let rows = body_slopes(sheet, scene, s, i, parts);
+    let rows = body_slopes(sheet, s, i, parts);
     square(s, rows)
 }

@@ -10,6 +10,7 @@ ghost use Rattle.body_freedom.specs.Dof.{columns_times};
 ghost use Rattle.body_freedom.specs.Square as spec;
 
 // Column i times column k, summed from +0 over the first `count` rows of the list.
+#[tactic(auto, unfolding(numbers::specs::Zeros::sum_over))]
 fn sum_over(s: &[f64], n: usize, i: usize, k: usize, list: &[usize], count: usize) -> f64
     requires i_lt_n { (i < n) × (k < n) × (count ≤ length list.now) }
     requires by_index { (j : ℕ) → j < count → get_or list.now j 0 * n + n ≤ length s.now }

@@ -1,15 +1,14 @@
 -- A running state taken from the caller's memory and put there again: what stands where, part by part and as one list; the flag by the errors filled in. Assumes nothing.
 use mathlib.Core.Path.{◌≡◌, refl, sym, ap, subst, ◌∙◌}
-use mathlib.Core.Bool.{Bool, true, false, not, ◌&&◌, and_assoc, and-true}
+use mathlib.Core.Bool.{Bool, true, false, not, ◌&&◌}
 use mathlib.Core.List.{List, [], ◌∷◌, ◌++◌, map, append_assoc}
 use mathlib.Core.Option.{Option}
-use Prim.Native.Nat.{ℕ, zero, suc, ◌+◌, ◌*◌, ◌≤◌, ◌<◌}
-use native.Mathlib.Nat.{not-suc-le-zero, le_of_suc-le-suc}
-use native.Mathlib.Numerals.{add-one}
+use Prim.Native.Nat.{ℕ, suc, ◌+◌, ◌*◌, ◌≤◌}
 use native.Mathlib.Omega.{arith}
 use lib.ListN.{length, get_or, set, take, drop}
-use lib.Seq.{take-suc, take_at, get_or-set_same}
+use lib.Seq.{take_at, get_or-set_same}
 use lib.Ieee.{Float, nan, le}
+use Rattle.std.specs.List.{list_all}
 use Rattle.numbers.specs.MaxAbs.{max_abs}
 use Rattle.relations.specs.Model.{Rel}
 use Rattle.least_squares.specs.Memory.{part}
@@ -26,6 +25,7 @@ use Rattle.rounds.specs.declared.parts.SolveParts.{SolveParts as PartsStruct}
 use Rattle.placement.specs.Answer.{Shown}
 use Rattle.closeness.specs.HowClosely.{all_within}
 use Rattle.portions.specs.Portions.{Running, run_of, begin, on, begin_made, on_made, answer_at}
+use Rattle.by_rounds.specs.Run.{run_number}
 use Rattle.by_rounds.specs.Running.{running_in, Stands, StandsBy}
 use Rattle.by_rounds.specs.State.{state_size, held_in}
 use Rattle.by_rounds.specs.Held.{HeldPut, Left}
@@ -37,7 +37,7 @@ use Rattle.by_rounds.specs.declared.held.Reached.{Reached as ReachedStruct}
 
 pub taken_is : (c : SceneStruct) (p : PartsStruct) (s t u v : List Float) (done run : ℕ) (state : List Float) (g : GoingStruct) → Arranged c p (length s)
     → Put s t p.x c.n (part state 1 c.n) → Put t u p.first c.n (part state (1 + c.n) c.n) → Put u v p.rows c.rows (part state (1 + 2 * c.n) c.rows)
-    → g.mu ≡ get_or state 0 nan → g.done ≡ done → g.run ≡ run_of run → Stands c p s v g (held_in c.n c.rows done run state)
+    → g.mu ≡ get_or state 0 nan → g.done ≡ done → run_number g.run ≡ run_of run → Stands c p s v g (held_in c.n c.rows done run state)
 taken_is c p s t u v done run state g at a b d m e f =
     let x : unknowns_in c p v ≡ part state 1 c.n
     = kept_part_below u v p.rows (p.rows + c.rows) p.x c.n (omega arith) d.kept
@@ -79,49 +79,10 @@ held_put c p s mu state a b d room x first rows =
 
 -- ---- the flag
 
-not-true : (b : Bool) → not b ≡ true → b ≡ false
-not-true true e = sym e
-not-true false e = refl
-
-not-false : (b : Bool) → not b ≡ false → b ≡ true
-not-false true e = refl
-not-false false e = sym e
-
-within_append : (tol : Float) (a b : List Float) → all_within tol (a ++ b) ≡ (all_within tol a && all_within tol b)
+pub within_list : (tol : Float) (errors : List Float) → list_all (λ e. le e tol) errors ≡ all_within tol errors
 unfolding all_within
-within_append tol [] b = refl
-within_append tol (e ∷ a) b = ap (λ (t : Bool). le e tol && t) (within_append tol a b) ∙ sym (and_assoc (le e tol) (all_within tol a) (all_within tol b))
-
-within_one : (tol e : Float) → all_within tol (e ∷ []) ≡ le e tol
-unfolding all_within
-within_one tol e = and-true (le e tol)
-
-pub none_passed : (tol : Float) (errors : List Float) → all_within tol (take 0 errors) ≡ true
-unfolding all_within
-none_passed tol errors = refl
-
-pub passed : (tol : Float) (errors : List Float) (i : ℕ) → i < length errors → not (le (get_or errors i nan) tol) ≡ false → all_within tol (take i errors) ≡ true → all_within tol (take (i + 1) errors) ≡ true
-passed tol errors i h e all =
-    ap (λ (k : ℕ). all_within tol (take k errors)) (add-one i)
-    ∙ ap (all_within tol) (take-suc errors i nan h)
-    ∙ within_append tol (take i errors) (get_or errors i nan ∷ [])
-    ∙ ap (λ (t : Bool). t && all_within tol (get_or errors i nan ∷ [])) all
-    ∙ within_one tol (get_or errors i nan)
-    ∙ not-false (le (get_or errors i nan) tol) e
-
-off_later : (tol : Float) (errors : List Float) (i k : ℕ) → i < k → k ≤ length errors → le (get_or errors i nan) tol ≡ false → all_within tol (take k errors) ≡ false
-unfolding all_within
-off_later tol [] i k h l e = absurd (let z : length {A = Float} [] ≡ 0 = refl in omega arith)
-off_later tol (a ∷ errors) i zero h l e = absurd (not-suc-le-zero h)
-off_later tol (a ∷ errors) zero (suc k) h l e = rw e
-off_later tol (a ∷ errors) (suc i) (suc k) h l e = rw (off_later tol errors i k (le_of_suc-le-suc h) (le_of_suc-le-suc l) e) (both (le a tol))
-  where
-    both : (t : Bool) → (t && false) ≡ false
-    both true = refl
-    both false = refl
-
-pub off : (tol : Float) (errors : List Float) (i k : ℕ) → i < k → k ≤ length errors → not (le (get_or errors i nan) tol) ≡ true → false ≡ all_within tol (take k errors)
-off tol errors i k h l e = sym (off_later tol errors i k h l (not-true (le (get_or errors i nan) tol) e))
+within_list tol [] = refl
+within_list tol (e ∷ errors) = ap (λ (t : Bool). le e tol && t) (within_list tol errors)
 
 -- ---- what a call leaves
 
@@ -170,15 +131,3 @@ left_as sc q c a b i j state state' poses poses' frames frames' errors errors' e
 module _ (sc : Scene) (q : Parameters) (c : SceneStruct) (p : PartsStruct) (state state' poses poses' frames frames' errors errors' : List Float) (e : ReachedStruct) where
   abbrev LeftAt : Running → ℕ → Type 0
   LeftAt st made = Left sc q c st made state state' poses poses' frames frames' errors errors' e
-
-  pub left_begun : (drag : Option ℕ) (portion : ℕ) (s t : List Float) (h : PortionStruct) → StandsBy c p s t h (begin sc q drag portion) (begin_made sc q drag portion)
-      → LeftAt (running_in c p t h.going) h.made → LeftAt (begin sc q drag portion) (begin_made sc q drag portion)
-  left_begun drag portion s t h w l = left_as sc q c _ _ _ _ state state' poses poses' frames frames' errors errors' e l w.stands.running w.made_is
-
-  pub left_on : (drag : Option ℕ) (portion : ℕ) (s t u : List Float) (g : GoingStruct) (h : PortionStruct) (st : Running) → Stands c p s t g st
-      → StandsBy c p t u h (on sc q drag portion (running_in c p t g)) (on_made sc q drag portion (running_in c p t g)) → LeftAt (running_in c p u h.going) h.made
-      → LeftAt (on sc q drag portion st) (on_made sc q drag portion st)
-  left_on drag portion s t u g h st a w l =
-      left_as sc q c _ _ _ _ state state' poses poses' frames frames' errors errors' e l
-      (w.stands.running ∙ ap (on sc q drag portion) a.running)
-      (w.made_is ∙ ap (on_made sc q drag portion) a.running)

@@ -1,12 +1,9 @@
 -- The row count of a run that a call goes on with, as `by_rounds::ends::is_over` tests it. Assumes nothing.
 use mathlib.Core.Path.{◌≡◌, sym}
-use mathlib.Core.Bool.{Bool, true, ◌||◌, or-true, or-false}
-use Prim.Native.Nat.{ℕ, ◌<◌, ◌≤◌}
+use mathlib.Core.Bool.{Bool, true, ◌||◌, or-true}
+use Prim.Native.Nat.{ℕ, ◌<◌}
 use lib.Dec.{ltb}
-use borrow.Author.Tests.{lt-ltb, le-ltb}
+use borrow.Author.Tests.{lt-ltb}
 
 pub too_many : (b : Bool) (n : ℕ) → 800 < n → true ≡ (b || ltb 800 n)
 too_many b n h = rw (lt-ltb 800 n h) (sym (or-true b))
-
-pub not_many : (b : Bool) (n : ℕ) → n ≤ 800 → b ≡ (b || ltb 800 n)
-not_many b n h = rw (le-ltb 800 n h) (sym (or-false b))

@@ -1,3 +1,4 @@
+pub mod Run
 pub mod Running
 pub mod State
 pub mod Held

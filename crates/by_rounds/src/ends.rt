@@ -1,35 +1,70 @@
 // How the runs of a running state begin and end, over the lent scratch. portions' `specs/Portions.antt` has the definitions, `specs/Running.antt` what stands where.
 
-ghost use Rattle.std.specs.Prelude.{◌≡◌, ◌||◌, eqb, leb, ltb, length};
-ghost use Rattle.scene.specs.Scene.{Laid, scene_of, parameters_of};
-ghost use Rattle.rounds.specs.Parts.{Arranged};
+ghost use Rattle.std.specs.Prelude.{◌≡◌, ◌≤◌, ◌||◌, eqb, leb, ltb, length};
+ghost use Rattle.scene.specs.Scene.{parameters_of};
+ghost use Rattle.scene.specs.Sheet.{sheet_scene};
+ghost use Rattle.rounds.specs.Solver.{parts_end};
 ghost use Rattle.rounds.specs.Rounds as rounds_spec;
 ghost use Rattle.portions.specs.Portions as portions;
+ghost use Rattle.by_rounds.specs.Run.{run_number};
 ghost use Rattle.by_rounds.specs.Running as spec;
 
 use least_squares::lm::copy;
 use placement::solve::{better, put_turn};
-use rounds::parts::SolveParts;
+use rounds::parts::Solver;
 use rounds::rounds::within;
 use scene::parameters::Parameters;
-use scene::scene::{Scene, rows_at};
+use scene::scene::Scene;
 
-// What of a running state goes by value: the damping, the rounds that the present run has made, and which run it is: 1 the first, 2 the retry, 3 finished.
+// Which run of its two a running state is in.
+#[derive(Clone, Copy, PartialEq, Eq)]
+pub enum Run {
+    First,
+    Retry,
+    Finished,
+}
+
+impl Run {
+    // True if there may be a round to come.
+    pub fn is_running(self) -> bool
+        ensures { result ≡ portions.is_running (run_number self) }
+    {
+        self != Run::Finished
+    }
+}
+
+// The number that the caller holds.
+impl From<Run> for u8 {
+    ghost from_gives = { λ run n. n ≡ run_number run };
+
+    fn from(run: Run) -> u8 {
+        match run {
+            Run::First => 1,
+            Run::Retry => 2,
+            Run::Finished => 3,
+        }
+    }
+}
+
+// Any other number than 1 and 2 counts as finished.
+impl From<u8> for Run {
+    ghost from_gives = { λ n run. run_number run ≡ portions.run_of n };
+
+    fn from(n: u8) -> Run {
+        match n {
+            1 => Run::First,
+            2 => Run::Retry,
+            _ => Run::Finished,
+        }
+    }
+}
+
+// What of a running state goes by value: the damping, the rounds that the present run has made, and which run it is.
 #[derive(Clone, Copy)]
 pub struct Going {
     pub mu: f64,
     pub done: u32,
-    pub run: u8,
-}
-
-// Whether there may be a round to come.
-pub fn is_running(run: u8) -> bool
-    ensures { result ≡ portions.is_running run }
-{
-    if run == 1 {
-        return true;
-    }
-    run == 2
+    pub run: Run,
 }
 
 // Whether a run that begins makes no round: nothing moves, or there are more rows than the limit.
@@ -43,119 +78,95 @@ pub fn no_round(scene: Scene, q: Parameters) -> bool
 }
 
 // The rows at the unknowns at `x` are worked; all else of the running state stays.
-pub fn worked(sheet: &[u8], scene: Scene, s: &mut [f64], p: SolveParts, g: Going) -> Going
-    requires laid { Laid sheet.now scene }
-    requires arranged { Arranged scene p (length s.old) }
-    ensures { spec.Went scene p s.old s.new result (spec.worked (scene_of sheet.now scene) (spec.running_in scene p s.old g)) }
+pub fn worked(solver: Solver, s: &mut [f64], g: Going) -> Going
+    requires scratch { parts_end solver ≤ length s.old }
+    ensures { spec.Went solver.entry.sheet.scene solver.entry.parts s.old s.new result (spec.worked (sheet_scene solver.entry.sheet) (spec.running_in solver.entry.sheet.scene solver.entry.parts s.old g)) }
 {
-    rows_at(sheet, scene, s, p.x, p.rows, p.poses);
+    let p = solver.parts;
+    solver.sheet.rows_at(s, p.x, p.rows, p.poses);
     g
 }
 
 // The retry has ended: it is kept, or the first run's unknowns come back.
-fn end_retry(
-    sheet: &[u8],
-    scene: Scene,
-    s: &mut [f64],
-    p: SolveParts,
-    converged: bool,
-    g: Going,
-) -> Going
-    requires laid { Laid sheet.now scene }
-    requires arranged { Arranged scene p (length s.old) }
-    ensures { spec.Went scene p s.old s.new result (portions.end_retry (scene_of sheet.now scene) converged (spec.running_in scene p s.old g)) }
+fn end_retry(solver: Solver, s: &mut [f64], converged: bool, g: Going) -> Going
+    requires scratch { parts_end solver ≤ length s.old }
+    ensures { spec.Went solver.entry.sheet.scene solver.entry.parts s.old s.new result (portions.end_retry (sheet_scene solver.entry.sheet) converged (spec.running_in solver.entry.sheet.scene solver.entry.parts s.old g)) }
 {
+    let p = solver.parts;
     let end = Going {
         mu: g.mu,
         done: g.done,
-        run: 3,
+        run: Run::Finished,
     };
-    let kept = better(sheet, scene, s, p, converged);
+    let kept = better(solver, s, converged);
     if kept {
-        return worked(sheet, scene, s, p, end);
+        return worked(solver, s, end);
     }
-    copy(s, p.first, p.x, scene.n);
-    worked(sheet, scene, s, p, end)
+    copy(s, p.first, p.x, solver.sheet.scene.n);
+    worked(solver, s, end)
 }
 
 // The retry begins, the first run having ended at the unknowns at `x`.
-fn begin_retry(sheet: &[u8], scene: Scene, s: &mut [f64], p: SolveParts, q: Parameters) -> Going
-    requires laid { Laid sheet.now scene }
-    requires arranged { Arranged scene p (length s.old) }
-    ensures { spec.Went scene p s.old s.new result (portions.begin_retry (scene_of sheet.now scene) (parameters_of q) (rounds_spec.unknowns_in scene p s.old)) }
+fn begin_retry(solver: Solver, s: &mut [f64], q: Parameters) -> Going
+    requires scratch { parts_end solver ≤ length s.old }
+    ensures { spec.Went solver.entry.sheet.scene solver.entry.parts s.old s.new result (portions.begin_retry (sheet_scene solver.entry.sheet) (parameters_of q) (rounds_spec.unknowns_in solver.entry.sheet.scene solver.entry.parts s.old)) }
 {
+    let scene = solver.sheet.scene;
+    let p = solver.parts;
     copy(s, p.x, p.first, scene.n);
     put_turn(s, p.x, scene.n);
     let start = Going {
         mu: 1e-10,
         done: 0,
-        run: 2,
+        run: Run::Retry,
     };
-    let g = worked(sheet, scene, s, p, start);
+    let g = worked(solver, s, start);
     let near = within(s, scene, p, q.tolerance);
     if near {
-        return end_retry(sheet, scene, s, p, true, g);
+        return end_retry(solver, s, true, g);
     }
     if no_round(scene, q) {
-        return end_retry(sheet, scene, s, p, false, g);
+        return end_retry(solver, s, false, g);
     }
     g
 }
 
 // A run has ended. Where it is the first, did not converge, and something moves, the retry begins.
-fn end_run(
-    sheet: &[u8],
-    scene: Scene,
-    s: &mut [f64],
-    p: SolveParts,
-    q: Parameters,
-    converged: bool,
-    g: Going,
-) -> Going
-    requires laid { Laid sheet.now scene }
-    requires arranged { Arranged scene p (length s.old) }
-    ensures { spec.Went scene p s.old s.new result (portions.end_run (scene_of sheet.now scene) (parameters_of q) converged (spec.running_in scene p s.old g)) }
+fn end_run(solver: Solver, s: &mut [f64], q: Parameters, converged: bool, g: Going) -> Going
+    requires scratch { parts_end solver ≤ length s.old }
+    ensures { spec.Went solver.entry.sheet.scene solver.entry.parts s.old s.new result (portions.end_run (sheet_scene solver.entry.sheet) (parameters_of q) converged (spec.running_in solver.entry.sheet.scene solver.entry.parts s.old g)) }
 {
-    if g.run != 1 {
-        return end_retry(sheet, scene, s, p, converged, g);
-    }
+    let Run::First = g.run else {
+        return end_retry(solver, s, converged, g);
+    };
     if converged {
         return Going {
             mu: g.mu,
             done: g.done,
-            run: 3,
+            run: Run::Finished,
         };
     }
-    if scene.n == 0 {
+    if solver.sheet.scene.n == 0 {
         return Going {
             mu: g.mu,
             done: g.done,
-            run: 3,
+            run: Run::Finished,
         };
     }
-    begin_retry(sheet, scene, s, p, q)
+    begin_retry(solver, s, q)
 }
 
 // A run ends where its rows are within the tolerance, and where `stop` says so.
-pub fn judged(
-    sheet: &[u8],
-    scene: Scene,
-    s: &mut [f64],
-    p: SolveParts,
-    q: Parameters,
-    stop: bool,
-    g: Going,
-) -> Going
-    requires laid { Laid sheet.now scene }
-    requires arranged { Arranged scene p (length s.old) }
-    ensures { spec.Went scene p s.old s.new result (portions.judged (scene_of sheet.now scene) (parameters_of q) stop (spec.running_in scene p s.old g)) }
+pub fn judged(solver: Solver, s: &mut [f64], q: Parameters, stop: bool, g: Going) -> Going
+    requires scratch { parts_end solver ≤ length s.old }
+    ensures { spec.Went solver.entry.sheet.scene solver.entry.parts s.old s.new result (portions.judged (sheet_scene solver.entry.sheet) (parameters_of q) stop (spec.running_in solver.entry.sheet.scene solver.entry.parts s.old g)) }
 {
-    let near = within(s, scene, p, q.tolerance);
+    let near = within(s, solver.sheet.scene, solver.parts, q.tolerance);
     if near {
-        return end_run(sheet, scene, s, p, q, true, g);
+        return end_run(solver, s, q, true, g);
     }
     if stop {
-        return end_run(sheet, scene, s, p, q, false, g);
+        return end_run(solver, s, q, false, g);
     }
     g
 }
@@ -172,21 +183,13 @@ fn is_over(scene: Scene, q: Parameters, done: u32) -> bool
 }
 
 // Before its first round a call judges the run that it goes on with.
-pub fn judge(
-    sheet: &[u8],
-    scene: Scene,
-    s: &mut [f64],
-    p: SolveParts,
-    q: Parameters,
-    g: Going,
-) -> Going
-    requires laid { Laid sheet.now scene }
-    requires arranged { Arranged scene p (length s.old) }
-    ensures { spec.Went scene p s.old s.new result (portions.judge (scene_of sheet.now scene) (parameters_of q) (spec.running_in scene p s.old g)) }
+pub fn judge(solver: Solver, s: &mut [f64], q: Parameters, g: Going) -> Going
+    requires scratch { parts_end solver ≤ length s.old }
+    ensures { spec.Went solver.entry.sheet.scene solver.entry.parts s.old s.new result (portions.judge (sheet_scene solver.entry.sheet) (parameters_of q) (spec.running_in solver.entry.sheet.scene solver.entry.parts s.old g)) }
 {
-    if is_running(g.run) {
-        let stop = is_over(scene, q, g.done);
-        return judged(sheet, scene, s, p, q, stop, g);
+    if g.run.is_running() {
+        let stop = is_over(solver.sheet.scene, q, g.done);
+        return judged(solver, s, q, stop, g);
     }
     g
 }

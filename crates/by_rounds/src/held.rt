@@ -1,18 +1,19 @@
 // A running state in the caller's memory, and the answer for its unknowns. `specs/State.antt` says what stands where, `specs/Held.antt` what is left.
 
-ghost use Rattle.std.specs.Prelude.{◌≡◌, ◌+◌, ◌*◌, ◌≤◌, length, take};
+ghost use Rattle.std.specs.Prelude.{◌≡◌, ◌+◌, ◌*◌, ◌≤◌, length};
 ghost use Rattle.closeness.specs.HowClosely as closeness;
-ghost use Rattle.scene.specs.Scene.{Laid, scene_of, parameters_of};
+ghost use Rattle.scene.specs.Scene.{parameters_of};
+ghost use Rattle.scene.specs.Sheet.{sheet_scene};
 ghost use Rattle.rounds.specs.Parts.{Arranged};
-ghost use Rattle.portions.specs.Portions as portions;
+ghost use Rattle.rounds.specs.Solver.{parts_end};
 ghost use Rattle.by_rounds.specs.Running as spec;
 ghost use Rattle.by_rounds.specs.State as state_spec;
 ghost use Rattle.by_rounds.specs.Held as held;
 
-use crate::ends::{Going, is_running};
+use crate::ends::{Going, Run};
 use crate::portion::Portion;
 use placement::solve::{copy_over, put_answer};
-use rounds::parts::SolveParts;
+use rounds::parts::{SolveParts, Solver};
 use scene::parameters::Parameters;
 use scene::scene::Scene;
 
@@ -21,19 +22,9 @@ use scene::scene::Scene;
 #[derive(Clone, Copy)]
 pub struct Reached {
     pub done: u32,
-    pub run: u8,
+    pub run: Run,
     pub made: usize,
     pub converged: bool,
-}
-
-// Which run a call goes on with: any other number than 1 and 2 counts as finished.
-fn run_of(run: u8) -> u8
-    ensures { result ≡ portions.run_of run }
-{
-    if is_running(run) {
-        return run;
-    }
-    3
 }
 
 // The running state that the caller holds, taken to the scratch.
@@ -57,17 +48,18 @@ pub fn take_held(
     Going {
         mu: state[0],
         done,
-        run: run_of(run),
+        run: Run::from(run),
     }
 }
 
 // The running state in the scratch, put to the caller's memory.
-fn put_held(s: &[f64], scene: Scene, p: SolveParts, mu: f64, state: &mut [f64])
-    requires arranged { Arranged scene p (length s.now) }
-    requires rows_bound { (scene.rows ≤ 896) × (scene.n ≤ 384) }
-    requires rows_in_bounds { 1 + 2 * scene.n + scene.rows ≤ length state.old }
-    ensures { held.HeldPut scene p s.now mu state.old state.new }
+fn put_held(solver: Solver, s: &[f64], mu: f64, state: &mut [f64])
+    requires scratch { parts_end solver ≤ length s.now }
+    requires rows_in_bounds { 1 + 2 * solver.sheet.scene.n + solver.sheet.scene.rows ≤ length state.old }
+    ensures { held.HeldPut solver.entry.sheet.scene solver.entry.parts s.now mu state.old state.new }
 {
+    let scene = solver.sheet.scene;
+    let p = solver.parts;
     let n = scene.n;
     state[0] = mu;
     copy_over(s, p.x, state, 1, n);
@@ -75,25 +67,17 @@ fn put_held(s: &[f64], scene: Scene, p: SolveParts, mu: f64, state: &mut [f64])
     copy_over(s, p.rows, state, 1 + 2 * n, scene.rows);
 }
 
-// Whether the first k errors are all within the tolerance.
-fn all_within(errors: &[f64], k: usize, tolerance: f64) -> bool
-    requires { k ≤ length errors.now }
-    ensures { result ≡ closeness.all_within tolerance (take k errors.now) }
+// Whether the errors are all within the tolerance.
+fn all_within(errors: &[f64], tolerance: f64) -> bool
+    ensures { result ≡ closeness.all_within tolerance errors.now }
 {
-    for i in 0..k {
-        if !(errors[i] <= tolerance) {
-            return false;
-        }
-    }
-    true
+    errors.iter().all(|&e| e <= tolerance)
 }
 
 // The running state in the scratch and the answer for its unknowns, put to the caller's memory.
 pub fn put_reached(
-    sheet: &[u8],
-    scene: Scene,
+    solver: Solver,
     s: &mut [f64],
-    p: SolveParts,
     q: Parameters,
     h: Portion,
     state: &mut [f64],
@@ -101,19 +85,18 @@ pub fn put_reached(
     frames: &mut [f64],
     errors: &mut [f64],
 ) -> Reached
-    requires laid { Laid sheet.now scene }
-    requires arranged { Arranged scene p (length s.old) }
-    requires room { held.Room scene state.old poses.old frames.old errors.old }
-    ensures { held.Left (scene_of sheet.now scene) (parameters_of q) scene
-        (spec.running_in scene p s.old h.going) h.made
+    requires scratch { parts_end solver ≤ length s.old }
+    requires room { held.Room solver.sheet.scene state.old poses.old frames.old errors.old }
+    ensures { held.Left (sheet_scene solver.entry.sheet) (parameters_of q) solver.entry.sheet.scene
+        (spec.running_in solver.entry.sheet.scene solver.entry.parts s.old h.going) h.made
         state.old state.new poses.old poses.new
         frames.old frames.new errors.old errors.new result }
 {
     let g = h.going;
     let run = g.run;
-    put_held(s, scene, p, g.mu, state);
-    put_answer(sheet, scene, s, p, poses, frames, errors);
-    let converged = all_within(errors, scene.k, q.tolerance);
+    put_held(solver, s, g.mu, state);
+    put_answer(solver, s, poses, frames, errors);
+    let converged = all_within(&errors[..solver.sheet.scene.k], q.tolerance);
     Reached {
         done: g.done,
         run,

@@ -1,24 +1,22 @@
 // A portion of rounds of a running state, over the lent scratch. portions' `specs/Portions.antt` has the definitions, `specs/Running.antt` what stands where.
 
-ghost use Rattle.std.specs.Prelude.{◌≡◌, not, true, ◌||◌, ◌+◌, ◌≤◌, ◌<◌, leb, length};
+ghost use Rattle.std.specs.Prelude.{◌≡◌, not, true, ◌||◌, ◌≤◌, ◌<◌, leb, length};
 ghost use Rattle.relations.specs.Model.{body_number};
-ghost use Rattle.scene.specs.Scene.{Laid, scene_of, parameters_of};
+ghost use Rattle.scene.specs.Scene.{parameters_of};
+ghost use Rattle.scene.specs.Sheet.{sheet_scene};
 ghost use Rattle.scene.specs.Solve as definitions;
-ghost use Rattle.rounds.specs.Parts.{Arranged};
 ghost use Rattle.least_squares.specs.Lm as lm;
+ghost use Rattle.rounds.specs.Solver.{parts_end};
 ghost use Rattle.rounds.specs.Rounds as rounds_spec;
 ghost use Rattle.portions.specs.Portions as portions;
 ghost use Rattle.portions.specs.Laws as laws;
 ghost use Rattle.by_rounds.specs.Running as spec;
 
-use crate::ends::{Going, is_running, judge, judged, no_round, worked};
+use crate::ends::{Going, Run, judge, judged, no_round, worked};
 use placement::solve::put_start;
-use relations::model::BodyRef;
-use rounds::parts::SolveParts;
-use rounds::rounds::one_round;
+use rounds::parts::Solver;
 use rounds::trial::squares;
 use scene::parameters::Parameters;
-use scene::scene::{Scene, inverse_weights};
 
 // Whether a run ends after its round number `done`: nothing better was found, or it was the last that the set allows.
 fn last_round(better: bool, q: Parameters, done: u32) -> bool
@@ -31,22 +29,15 @@ fn last_round(better: bool, q: Parameters, done: u32) -> bool
 }
 
 // One round more, and whether the run ends with it.
-fn one_more(
-    sheet: &[u8],
-    scene: Scene,
-    s: &mut [f64],
-    p: SolveParts,
-    q: Parameters,
-    g: Going,
-) -> Going
-    requires laid { Laid sheet.now scene }
-    requires arranged { Arranged scene p (length s.old) }
-    requires rows_bound { (scene.rows ≤ 800) × (scene.n ≤ 384) × (g.done < 1000) }
-    requires s_value { lm.all_finite (rounds_spec.weights_in scene p s.old) ≡ true }
-    ensures { spec.Went scene p s.old s.new result (portions.one_more (scene_of sheet.now scene) (parameters_of q) (rounds_spec.weights_in scene p s.old) (spec.running_in scene p s.old g)) }
+fn one_more(solver: Solver, s: &mut [f64], q: Parameters, g: Going) -> Going
+    requires scratch { parts_end solver ≤ length s.old }
+    requires rows_bound { (solver.sheet.scene.rows ≤ 800) × (g.done < 1000) }
+    requires s_value { lm.all_finite (rounds_spec.weights_in solver.sheet.scene solver.parts s.old) ≡ true }
+    ensures { spec.Went solver.entry.sheet.scene solver.entry.parts s.old s.new result (portions.one_more (sheet_scene solver.entry.sheet) (parameters_of q) (rounds_spec.weights_in solver.entry.sheet.scene solver.entry.parts s.old) (spec.running_in solver.entry.sheet.scene solver.entry.parts s.old g)) }
 {
-    let cost = squares(s, p.rows, scene.rows);
-    let t = one_round(sheet, scene, s, p, cost, g.mu);
+    let p = solver.parts;
+    let cost = squares(s, p.rows, solver.sheet.scene.rows);
+    let t = solver.one_round(s, cost, g.mu);
     let done = g.done + 1;
     let stop = last_round(t.better, q, done);
     let next = Going {
@@ -54,7 +45,7 @@ fn one_more(
         done,
         run: g.run,
     };
-    judged(sheet, scene, s, p, q, stop, next)
+    judged(solver, s, q, stop, next)
 }
 
 // What a portion of rounds has come to, and how many rounds it has made.
@@ -65,32 +56,22 @@ pub struct Portion {
 }
 
 // At most `portion` rounds, those of both runs counted together.
-fn go(
-    sheet: &[u8],
-    scene: Scene,
-    s: &mut [f64],
-    p: SolveParts,
-    q: Parameters,
-    portion: usize,
-    g: Going,
-) -> Portion
-    requires laid { Laid sheet.now scene }
-    requires arranged { Arranged scene p (length s.old) }
-    requires n_bound { scene.n ≤ 384 }
+fn go(solver: Solver, s: &mut [f64], q: Parameters, portion: usize, g: Going) -> Portion
+    requires scratch { parts_end solver ≤ length s.old }
     requires q_value { definitions.in_range (parameters_of q) ≡ true }
-    requires settled { laws.Settled (scene_of sheet.now scene) (parameters_of q) (spec.running_in scene p s.old g) }
-    requires s_value { lm.all_finite (rounds_spec.weights_in scene p s.old) ≡ true }
-    ensures { spec.WentBy scene p s.old s.new result
-        (portions.go (scene_of sheet.now scene) (parameters_of q)
-        (rounds_spec.weights_in scene p s.old) portion (spec.running_in scene p s.old g))
-        (portions.rounds_made (scene_of sheet.now scene) (parameters_of q)
-        (rounds_spec.weights_in scene p s.old) portion (spec.running_in scene p s.old g)) }
+    requires settled { laws.Settled (sheet_scene solver.sheet) (parameters_of q) (spec.running_in solver.sheet.scene solver.parts s.old g) }
+    requires s_value { lm.all_finite (rounds_spec.weights_in solver.sheet.scene solver.parts s.old) ≡ true }
+    ensures { spec.WentBy solver.entry.sheet.scene solver.entry.parts s.old s.new result
+        (portions.go (sheet_scene solver.entry.sheet) (parameters_of q)
+        (rounds_spec.weights_in solver.entry.sheet.scene solver.entry.parts s.old) portion (spec.running_in solver.entry.sheet.scene solver.entry.parts s.old g))
+        (portions.rounds_made (sheet_scene solver.entry.sheet) (parameters_of q)
+        (rounds_spec.weights_in solver.entry.sheet.scene solver.entry.parts s.old) portion (spec.running_in solver.entry.sheet.scene solver.entry.parts s.old g)) }
 {
     let mut e = g;
     let mut made: usize = 0;
     for i in 0..portion {
-        if is_running(e.run) {
-            let next = one_more(sheet, scene, s, p, q, e);
+        if e.run.is_running() {
+            let next = one_more(solver, s, q, e);
             e = next;
             made += 1;
         } else {
@@ -102,59 +83,53 @@ fn go(
 
 // A call that begins, for a portion of rounds.
 pub fn begin(
-    sheet: &[u8],
-    scene: Scene,
+    solver: Solver,
     s: &mut [f64],
-    p: SolveParts,
     q: Parameters,
-    drag: BodyRef,
+    drag: Option<usize>,
     portion: usize,
 ) -> Portion
-    requires laid { Laid sheet.now scene }
-    requires arranged { Arranged scene p (length s.old) }
-    requires n_bound { scene.n ≤ 384 }
+    requires scratch { parts_end solver ≤ length s.old }
     requires q_value { definitions.in_range (parameters_of q) ≡ true }
-    ensures { spec.StandsBy scene p s.old s.new result
-        (portions.begin (scene_of sheet.now scene) (parameters_of q) (body_number drag) portion)
-        (portions.begin_made (scene_of sheet.now scene) (parameters_of q) (body_number drag) portion) }
+    ensures { spec.StandsBy solver.entry.sheet.scene solver.entry.parts s.old s.new result
+        (portions.begin (sheet_scene solver.entry.sheet) (parameters_of q) (body_number drag) portion)
+        (portions.begin_made (sheet_scene solver.entry.sheet) (parameters_of q) (body_number drag) portion) }
 {
-    let n = scene.n;
-    inverse_weights(sheet, scene, s, p.weights, q.weight, drag);
+    let p = solver.parts;
+    let n = solver.sheet.scene.n;
+    solver.sheet.inverse_weights(s, p.weights, q.weight, drag);
     put_start(s, p.x, n);
     put_start(s, p.first, n);
     let start = Going {
         mu: 1e-10,
         done: 0,
-        run: 1,
+        run: Run::First,
     };
-    let fresh = worked(sheet, scene, s, p, start);
-    let stop = no_round(scene, q);
-    let g = judged(sheet, scene, s, p, q, stop, fresh);
-    go(sheet, scene, s, p, q, portion, g)
+    let fresh = worked(solver, s, start);
+    let stop = no_round(solver.sheet.scene, q);
+    let g = judged(solver, s, q, stop, fresh);
+    go(solver, s, q, portion, g)
 }
 
 // A call that goes on from the running state in the scratch, for a portion of rounds.
 pub fn on(
-    sheet: &[u8],
-    scene: Scene,
+    solver: Solver,
     s: &mut [f64],
-    p: SolveParts,
     q: Parameters,
-    drag: BodyRef,
+    drag: Option<usize>,
     portion: usize,
     g: Going,
 ) -> Portion
-    requires laid { Laid sheet.now scene }
-    requires arranged { Arranged scene p (length s.old) }
-    requires n_bound { scene.n ≤ 384 }
+    requires scratch { parts_end solver ≤ length s.old }
     requires q_value { definitions.in_range (parameters_of q) ≡ true }
-    ensures { spec.StandsBy scene p s.old s.new result
-        (portions.on (scene_of sheet.now scene) (parameters_of q) (body_number drag) portion
-        (spec.running_in scene p s.old g))
-        (portions.on_made (scene_of sheet.now scene) (parameters_of q) (body_number drag) portion
-        (spec.running_in scene p s.old g)) }
+    ensures { spec.StandsBy solver.entry.sheet.scene solver.entry.parts s.old s.new result
+        (portions.on (sheet_scene solver.entry.sheet) (parameters_of q) (body_number drag) portion
+        (spec.running_in solver.entry.sheet.scene solver.entry.parts s.old g))
+        (portions.on_made (sheet_scene solver.entry.sheet) (parameters_of q) (body_number drag) portion
+        (spec.running_in solver.entry.sheet.scene solver.entry.parts s.old g)) }
 {
-    inverse_weights(sheet, scene, s, p.weights, q.weight, drag);
-    let h = judge(sheet, scene, s, p, q, g);
-    go(sheet, scene, s, p, q, portion, h)
+    let p = solver.parts;
+    solver.sheet.inverse_weights(s, p.weights, q.weight, drag);
+    let h = judge(solver, s, q, g);
+    go(solver, s, q, portion, h)
 }

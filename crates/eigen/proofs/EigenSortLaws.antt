@@ -3,21 +3,22 @@
 use mathlib.Core.Path.{◌≡◌, refl, sym, ap, ◌∙◌}
 use mathlib.Core.Bool.{Bool, true, false}
 use mathlib.Core.Logic.{◌≢◌, ⊎_elim, dite}
-use mathlib.Core.List.{List, [], ◌∷◌, ◌++◌, map, map-append, append-nil}
+use mathlib.Core.List.{List, [], ◌∷◌, map, map-append, append-nil}
 use Prim.Native.Nat.{ℕ, zero, suc, ◌+◌, ◌-◌, ◌*◌, ◌<◌, ◌≤◌}
 use native.Mathlib.Nat.{mul-le-mul_right, suc-mul, eq-or-lt_of_le, le_of_suc-le-suc, not-suc-le-zero, le_refl}
 use native.Mathlib.Numerals.{add-one, sub-one}
 use native.Mathlib.Decide.{ℕ_discrete}
 use native.Mathlib.Omega.{arith}
-use lib.ListN.{length, take, set, get_or, length-set, drop_of_length-le}
+use lib.ListN.{length, take, drop, set, get_or, length-map, length-set, drop_of_length-le}
 use lib.Seq.{get_or-set_same, get_or-set_other, ext_get_or, lt-length-set, set_comm, take-suc, take-length, take_all}
 use lib.Ieee.{Float, nan}
 use Rattle.numbers.specs.Double.{before}
 use Rattle.eigen.specs.Sort.{sort}
 use Rattle.eigen.specs.Insertion.{sink}
 use Rattle.eigen.specs.Eigen.{Eigen, Turned, turned, unit_to, sweeps, column, pairs, lower, sym_eigen}
-use Rattle.eigen.specs.EigenMemory.{SymEigen, Held, held, columns, diagonal, swap_pair, swap_columns, swapped, forward, sorted}
-use Rattle.eigen.proofs.Sorting.{sink_on, sink_stop, sorted_to, sorted_start, sorted_step, sorted_end}
+use Rattle.eigen.specs.EigenMemory.{SymEigen, Held, held, pair_at, held_pairs, columns, diagonal, swap_pair, swap_columns, swapped, forward, sorted}
+use Rattle.eigen.proofs.Sorting.{sink_on, sink_stop, sorted_to, sorted_start, sorted_step, sorted_end, length_sort}
+use Rattle.eigen.proofs.SweepLaws.{length_pairs}
 use Rattle.eigen.proofs.EigenLaws.{row_within, Grows, length_grows, get_d_grows, length_stored}
 
 -- ---- two entries change places
@@ -75,19 +76,11 @@ module _ (n a b : ℕ) (ha : a < n) (hb : b < n) (l : List Float) (size : length
 
 -- ---- the pairs as a list
 
-abbrev pair_at : ℕ → Held → ℕ → Eigen
-pair_at n w i = record { value = get_or w.vals i nan; vector = column n w.v i n }
-
--- the first k pairs
-unfoldable pub held_pairs : ℕ → Held → ℕ → List Eigen
-held_pairs n w zero = []
-held_pairs n w (suc k) = held_pairs n w k ++ (pair_at n w k ∷ [])
-
 held_grows : (n : ℕ) (w : Held) → Grows (held_pairs n w) (pair_at n w)
 unfolding held_pairs
 held_grows n w = record { none = refl; more = λ k. refl }
 
-length_held_pairs : (n : ℕ) (w : Held) (k : ℕ) → length (held_pairs n w k) ≡ k
+pub length_held_pairs : (n : ℕ) (w : Held) (k : ℕ) → length (held_pairs n w k) ≡ k
 length_held_pairs n w k = length_grows (held_grows n w) k
 
 get_d_held_pairs : (n : ℕ) (w : Held) (d : Eigen) (k i : ℕ) → i < k → get_or (held_pairs n w k) i d ≡ pair_at n w i
@@ -305,3 +298,26 @@ module _ (n : ℕ) (a u m v d vals r : List Float) (unit : u ≡ unit_to n n) (t
         values = values_of n (held vals r) (ap (λ (w : Held). length w.vals) sort-is ∙ (sorted_sized n (held d v) size n (le_refl n)).vals) ∙ rw pairs_are;
         vectors = vectors_of n (held vals r) n ∙ rw pairs_are;
       }
+
+-- ---- what `sym_eigen` leaves, read as pairs
+
+abbrev eigen_of : Float → List Float → Eigen
+eigen_of value vector = record { value = value; vector = vector }
+
+same_pairs : (l r : List Eigen) → map (λ (e : Eigen). e.value) l ≡ map (λ (e : Eigen). e.value) r → map (λ (e : Eigen). e.vector) l ≡ map (λ (e : Eigen). e.vector) r → l ≡ r
+same_pairs [] [] p q = refl
+same_pairs [] (y ∷ r) p q = absurd (let e : 0 ≡ suc (length (map (λ (e : Eigen). e.value) r)) = ap length p in omega arith)
+same_pairs (x ∷ l) [] p q = absurd (let e : suc (length (map (λ (e : Eigen). e.value) l)) ≡ 0 = ap length p in omega arith)
+same_pairs (x ∷ l) (y ∷ r) p q =
+    ap (λ (v : Float). eigen_of v x.vector ∷ l) (ap (λ (s : List Float). get_or s 0 nan) p)
+    ∙ ap (λ (v : List Float). eigen_of y.value v ∷ l) (ap (λ (s : List (List Float)). get_or s 0 []) q)
+    ∙ ap (λ (t : List Eigen). y ∷ t) (same_pairs l r (ap (drop 1) p) (ap (drop 1) q))
+
+length_sym_eigen : (n : ℕ) (a : List Float) → length (sym_eigen n a) ≡ n
+unfolding sym_eigen
+length_sym_eigen n a = length_sort lower (eigen_of nan []) (pairs n (sweeps n 100 (turned a (unit_to n n))) n) ∙ length_pairs n (sweeps n 100 (turned a (unit_to n n))) n
+
+pub held_sym_eigen : (n : ℕ) (a m v vals : List Float) → SymEigen n a m v vals → held_pairs n (held vals v) n ≡ sym_eigen n a
+held_sym_eigen n a m v vals h =
+    let e : length vals ≡ n = ap length h.values ∙ length-map (sym_eigen n a) (λ (e : Eigen). e.value) ∙ length_sym_eigen n a in
+    same_pairs (held_pairs n (held vals v) n) (sym_eigen n a) (sym (values_of n (held vals v) e) ∙ h.values) (sym (vectors_of n (held vals v) n) ∙ h.vectors)

@@ -4,7 +4,6 @@ use mathlib.Core.Path.{◌≡◌, refl, sym, ap, ◌∙◌}
 use mathlib.Core.Bool.{Bool, true, false, cond}
 use mathlib.Core.List.{[], ◌∷◌}
 use native.Mathlib.Omega.{arith}
-use native.Mathlib.Numerals.{add-one}
 use lib.ListN.{length, get_or, length-append}
 use lib.Ieee.{Float, nan, binary64, mul, lt, of_bits}
 use Rattle.numbers.specs.Double.{abs}
@@ -21,10 +20,6 @@ row_step n p q w x y h e f =
     let k : q + 1 - (p + 1) ≡ suc (q - (p + 1)) = omega arith in
     let l : p + 1 + (q - (p + 1)) ≡ q = omega arith in
     rw (k, l, ← e) f
-
-pub sweep_step : (n p : ℕ) (w x y : Turned) → x ≡ sweep_to n w p → y ≡ sweep_row n p x (n - (p + 1)) → y ≡ sweep_to n w (p + 1)
-unfolding sweep_to
-sweep_step n p w x y e f = rw (add-one p, ← e) f
 
 pub sweeps_stop : (n k : ℕ) (w : Turned) → settled w.m n ≡ true → sweeps n k w ≡ w
 unfolding sweeps

@@ -36,6 +36,15 @@ pub record Held : Type 0 where
 abbrev pub held : List Float → List Float → Held
 held vals v = record { vals = vals; v = v }
 
+-- the i-th value with its column; the first k of these pairs
+abbrev pub pair_at : ℕ → Held → ℕ → Eigen
+pair_at n w i = record { value = get_or w.vals i nan; vector = column n w.v i n }
+
+unfoldable pub held_pairs : ℕ → Held → ℕ → List Eigen
+unfolding column
+held_pairs n w zero = []
+held_pairs n w (suc k) = held_pairs n w k ++ (pair_at n w k ∷ [])
+
 -- the entries at i and j change places
 abbrev pub swap_pair : List Float → ℕ → ℕ → List Float
 swap_pair l i j = set (set l i (get_or l j nan)) j (get_or l i nan)

@@ -34,6 +34,7 @@ fn unit(v: &mut [f64], n: usize)
 }
 
 // The squares of row i off the diagonal, added to s.
+#[tactic(auto, unfolding(crate::specs::Eigen::off_row))]
 fn off_row(m: &[f64], n: usize, i: usize, s: f64) -> f64
     requires m_len { length m.now ≡ n * n }
     requires i_lt_n { i < n }
@@ -51,6 +52,7 @@ fn off_row(m: &[f64], n: usize, i: usize, s: f64) -> f64
 }
 
 // The sum of the squares off the diagonal.
+#[tactic(auto, unfolding(crate::specs::Eigen::off_to))]
 fn off(m: &[f64], n: usize) -> f64
     requires { length m.now ≡ n * n }
     ensures { result ≡ spec.off_to m.now n n }
@@ -63,6 +65,7 @@ fn off(m: &[f64], n: usize) -> f64
 }
 
 // The sum of the squares on the diagonal.
+#[tactic(auto, unfolding(crate::specs::Eigen::diag_to))]
 fn diag(m: &[f64], n: usize) -> f64
     requires { length m.now ≡ n * n }
     ensures { result ≡ spec.diag_to m.now n n }
@@ -76,6 +79,7 @@ fn diag(m: &[f64], n: usize) -> f64
 }
 
 // Whether what is off the diagonal is too small to count.
+#[tactic(auto, unfolding(crate::specs::Eigen::settled))]
 fn settled(m: &[f64], n: usize) -> bool
     requires { length m.now ≡ n * n }
     ensures { result ≡ spec.settled m.now n }
@@ -86,6 +90,7 @@ fn settled(m: &[f64], n: usize) -> bool
 }
 
 // The tangent of the angle that clears the entry pq.
+#[tactic(auto, unfolding(crate::specs::Eigen::tangent_of))]
 pub fn tangent(app: f64, aqq: f64, apq: f64) -> f64
     ensures { result ≡ spec.tangent_of app aqq apq }
 {
@@ -98,6 +103,7 @@ pub fn tangent(app: f64, aqq: f64, apq: f64) -> f64
 }
 
 // The cosine of the angle whose tangent is t.
+#[tactic(auto, unfolding(crate::specs::Eigen::cosine_of))]
 pub fn cosine(t: f64) -> f64
     ensures { result ≡ spec.cosine_of t }
 {
@@ -117,6 +123,7 @@ fn turn_pair(l: &mut [f64], i: usize, j: usize, c: f64, s: f64)
 }
 
 // Turns columns p and q of so many rows of n entries.
+#[tactic(auto, unfolding(crate::specs::Eigen::turn_columns))]
 fn turn_columns(l: &mut [f64], n: usize, rows: usize, p: usize, q: usize, c: f64, s: f64)
     requires l_len { length l.old ≡ rows * n }
     requires p_lt_n { p < n }
@@ -130,6 +137,7 @@ fn turn_columns(l: &mut [f64], n: usize, rows: usize, p: usize, q: usize, c: f64
 }
 
 // Turns rows p and q.
+#[tactic(auto, unfolding(crate::specs::Eigen::turn_rows))]
 fn turn_rows(l: &mut [f64], n: usize, p: usize, q: usize, c: f64, s: f64)
     requires l_len { length l.old ≡ n * n }
     requires p_lt_n { p < n }
@@ -178,6 +186,7 @@ fn sweep_row(m: &mut [f64], v: &mut [f64], n: usize, rows: usize, p: usize)
 }
 
 // One sweep over the entries right of the diagonal.
+#[tactic(auto, unfolding(crate::specs::Eigen::sweep_to))]
 fn sweep(m: &mut [f64], v: &mut [f64], n: usize, rows: usize)
     requires m_len { length m.old ≡ n * n }
     requires rows { memory.Rows n rows v.old }
@@ -213,19 +222,8 @@ fn diagonal(m: &[f64], vals: &mut [f64], n: usize)
     }
 }
 
-// The entries at i and j change places.
-fn swap(l: &mut [f64], i: usize, j: usize)
-    requires i_in_bounds { i < length l.old }
-    requires j_in_bounds { j < length l.old }
-    ensures { l.new ≡ memory.swap_pair l.old i j }
-{
-    let x = l[i];
-    let y = l[j];
-    l[i] = y;
-    l[j] = x;
-}
-
 // Columns i and j of so many rows of n entries change places.
+#[tactic(auto, unfolding(crate::specs::EigenMemory::swap_columns))]
 fn swap_columns(l: &mut [f64], n: usize, rows: usize, i: usize, j: usize)
     requires l_len { length l.old ≡ rows * n }
     requires i_lt_n { i < n }
@@ -234,7 +232,7 @@ fn swap_columns(l: &mut [f64], n: usize, rows: usize, i: usize, j: usize)
 {
     for k in 0..rows {
         let o = k * n;
-        swap(l, o + i, o + j);
+        l.swap(o + i, o + j);
     }
 }
 
@@ -245,20 +243,17 @@ fn forward(vals: &mut [f64], v: &mut [f64], n: usize, rows: usize, i: usize)
     requires i_lt_n { i < n }
     ensures { memory.held vals.new v.new ≡ memory.forward n i (memory.held vals.old v.old) }
 {
-    let mut j = i;
-    while 0 < j {
-        let k = j - 1;
-        if numbers::before(vals[j], vals[k]) {
-            swap(vals, k, j);
-            swap_columns(v, n, rows, k, j);
-            j = k;
-        } else {
-            return;
+    for j in (0..i).rev() {
+        if !numbers::before(vals[j + 1], vals[j]) {
+            break;
         }
+        vals.swap(j, j + 1);
+        swap_columns(v, n, rows, j, j + 1);
     }
 }
 
 // Sorts the values upward, each with its column, of which v has so many rows: all n, or none where the values alone are asked for.
+#[tactic(auto, unfolding(crate::specs::EigenMemory::sorted))]
 pub fn sort(vals: &mut [f64], v: &mut [f64], n: usize, rows: usize)
     requires vals_len { length vals.old ≡ n }
     requires rows { memory.Rows n rows v.old }

@@ -7,13 +7,13 @@ mod by_value;
 
 ghost use Rattle.std.specs.Prelude.{◌*◌, ◌≤◌, ◌<◌, length};
 
+use by_value::{eigen_record, span_record};
 use eigen::eigen::sym_eigen;
-use lists::answers::{counted, same};
+use lists::answers::same;
 use lists::list;
-use lists::list::word;
+use lists::list::{replay, word};
 use std::io;
 use std::io::Read;
-use std::rt::Files;
 
 fn same_column(file: &mut impl Read, v: &[f64], n: usize, i: usize) -> bool
     requires n_in_bounds { n * n ≤ length v.now }
@@ -21,7 +21,7 @@ fn same_column(file: &mut impl Read, v: &[f64], n: usize, i: usize) -> bool
 {
     let mut ok = true;
     for k in 0..n {
-        ok = same(v[k * n + i], word(file)) && ok;
+        ok &= same(v[k * n + i], word(file));
     }
     ok
 }
@@ -31,18 +31,9 @@ fn same_vectors(file: &mut impl Read, v: &[f64], n: usize) -> bool
 {
     let mut ok = true;
     for i in 0..n {
-        ok = same_column(file, v, n, i) && ok;
+        ok &= same_column(file, v, n, i);
     }
     ok
-}
-
-fn solve(m: &mut [f64], v: &mut [f64], vals: &mut [f64], n: usize)
-    requires n_in_bounds { n * n ≤ length m.old }
-    requires n_in_bounds_2 { n * n ≤ length v.old }
-    requires n_in_bounds_3 { n ≤ length vals.old }
-{
-    let k = n * n;
-    sym_eigen(&mut m[0..k], &mut v[0..k], &mut vals[0..n], n);
 }
 
 // Whether the next record has the answer that is found here.
@@ -51,41 +42,21 @@ fn record(file: &mut impl Read) -> bool {
     if n > 18 {
         return false;
     }
+    let k = n * n;
     let mut m = [0.0; 324];
     let mut v = [0.0; 324];
     let mut vals = [0.0; 18];
-    list::read(file, &mut m, n * n);
-    solve(&mut m, &mut v, &mut vals, n);
-    let values = list::holds(file, &vals, 0, n);
+    list::read(file, &mut m[..k]);
+    sym_eigen(&mut m[..k], &mut v[..k], &mut vals[..n], n);
+    let values = list::holds(file, &vals[..n]);
     let vectors = same_vectors(file, &v, n);
     values && vectors
 }
 
-// Which function a list is replayed on: 0 `sym_eigen` on lent memory, 1 by value, 2 `span_basis`.
-fn judge(file: &mut impl Read, which: u8) -> bool {
-    if which == 0 {
-        record(file)
-    } else if which == 1 {
-        by_value::eigen_record(file)
-    } else {
-        by_value::span_record(file)
-    }
-}
-
-fn replay(rt: &(impl Files + Print + Eprint), path: &str, which: u8) -> io::Result<()> {
-    let mut file = list::open(rt, path.as_bytes())?;
-    let n = list::count(&mut file);
-    let mut wrong = 0u64;
-    for i in 0..n {
-        wrong = counted(wrong, judge(&mut file, which));
-    }
-    list::close(rt, path.as_bytes(), file, n, wrong)
-}
-
 fn main(rt: HostRuntime) -> io::Result<()> {
-    replay(&rt, "sym_eigen3.bin", 0)?;
-    replay(&rt, "sym_eigen_any.bin", 0)?;
-    replay(&rt, "sym_eigen3.bin", 1)?;
-    replay(&rt, "sym_eigen6.bin", 1)?;
-    replay(&rt, "span_basis.bin", 2)
+    replay(&rt, "sym_eigen3.bin", record)?;
+    replay(&rt, "sym_eigen_any.bin", record)?;
+    replay(&rt, "sym_eigen3.bin", eigen_record)?;
+    replay(&rt, "sym_eigen6.bin", eigen_record)?;
+    replay(&rt, "span_basis.bin", span_record)
 }

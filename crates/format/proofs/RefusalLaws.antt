@@ -1,4 +1,4 @@
--- The tests taken one more record at a time, what no fault says of each record, tests that are the same or joined, and what a header that passes says of the sheet's length.
+-- Tests in a row, what no fault says of each record, tests that are the same or joined, and what a header that passes says of the sheet's length.
 -- Assumes nothing.
 use mathlib.Core.Path.{◌≡◌, refl, sym, subst, ◌∙◌}
 use mathlib.Core.Bool.{Bool, true, false, ◌&&◌, cond}
@@ -11,18 +11,13 @@ use native.Mathlib.Omega.{arith}
 use lib.ListN.{length}
 use lib.Dec.{leb}
 use borrow.Author.Tests.{leb-true, eqb-true}
+use Rattle.faults.specs.declared.fault.Fault.{Fault}
+use Rattle.std.specs.Prelude.{Result, Ok, Err}
+use Rattle.std.specs.Result.{result_and}
+use Rattle.faults.specs.Fault.{number, number_of}
+use Rattle.faults.proofs.FaultLaws.{number_nonzero}
 use Rattle.format.specs.Format.{bodies_of, relations_of, body_start, rel_start}
 use Rattle.format.specs.Faults.{or_else, header_fault, header_zeros, header_counts, header_offsets, body_shape, body_limits, body_fault, rel_shape, rel_teeth, rel_names, rel_limits, rel_fault, bodies_fault, rels_fault, sheet_fault}
-
--- ---- one more
-
-pub bodies_more : (s : List ℕ) (i f g : ℕ) → f ≡ bodies_fault s i → g ≡ body_fault s (body_start i) → or_else f g ≡ bodies_fault s (i + 1)
-unfolding bodies_fault
-bodies_more s i f g p q = rw (add-one i, p, q)
-
-pub rels_more : (s : List ℕ) (m j f g : ℕ) → m ≡ bodies_of s → f ≡ rels_fault s j → g ≡ rel_fault m s (rel_start m j) → or_else f g ≡ rels_fault s (j + 1)
-unfolding rels_fault
-rels_more s m j f g e p q = rw (add-one j, p, q, e)
 
 -- ---- the first that is not 0
 
@@ -30,9 +25,45 @@ pub or_else_first : (a b : ℕ) → (a ≡ 0 → ⊥) → a ≡ or_else a b
 or_else_first zero b h = absurd (h refl)
 or_else_first (suc a) b h = refl
 
+-- a test that refuses, before any other
+pub or_else_fault : (f : Fault) (b : ℕ) → or_else (number f) b ≡ number f
+or_else_fault f b = sym (or_else_first (number f) b (number_nonzero f))
+
 pub none_of : (a b : ℕ) → or_else a b ≡ 0 → (a ≡ 0) × (b ≡ 0)
 none_of zero b h = (refl, h)
 none_of (suc a) b h = absurd (omega arith)
+
+-- two tests, both made
+pub number_and : (a b : Result Unit Fault) → number_of (result_and a b) ≡ or_else (number_of a) (number_of b)
+number_and (Ok x) b = refl
+number_and (Err f) b = sym (or_else_fault f (number_of b))
+
+-- ---- the first fault among tests in a row: g n is that of the first n of the tests t
+
+pub record FirstOf (t g : ℕ → ℕ) : Type 0 where
+  pub none_yet : g 0 ≡ 0
+  pub more : (n : ℕ) → g (suc n) ≡ or_else (g n) (t n)
+
+-- one more test that passes
+pub pass_more : (t g : ℕ → ℕ) → FirstOf t g → (i : ℕ) → g i ≡ 0 → t i ≡ 0 → g (i + 1) ≡ 0
+pass_more t g h i p q = rw (add-one i, h.more i, p, q)
+
+-- test i is the first that refuses
+pub refuses_at : (t g : ℕ → ℕ) → FirstOf t g → (f : Fault) (i n : ℕ) → g i ≡ 0 → number f ≡ t i → i < n → number f ≡ g n
+refuses_at t g h f i zero p q l = absurd (omega arith)
+refuses_at t g h f i (suc n) p q l =
+    ⊎_elim
+    (λ (e : i ≡ n). let z : g n ≡ 0 = rw (← e) p in let o : t n ≡ number f = rw (← e) (sym q) in rw (h.more n, z, o))
+    (λ (k : i < n). let o : g n ≡ number f = sym (refuses_at t g h f i n p q k) in rw (h.more n, o) (sym (or_else_fault f (t n))))
+    (eq-or-lt_of_le (le_of_suc-le-suc l))
+
+pub bodies_in_row : (s : List ℕ) → FirstOf (λ i. body_fault s (body_start i)) (bodies_fault s)
+unfolding bodies_fault
+bodies_in_row s = record { none_yet = refl; more = λ n. refl }
+
+pub rels_in_row : (s : List ℕ) → FirstOf (λ j. rel_fault (bodies_of s) s (rel_start (bodies_of s) j)) (rels_fault s)
+unfolding rels_fault
+rels_in_row s = record { none_yet = refl; more = λ n. refl }
 
 -- ---- no fault at all: none of any record, and all tests of a body and of a relation pass
 
@@ -114,17 +145,6 @@ header_passes s h =
       header = leb-true 24 (length s) p.0;
       whole = eqb-true (length s) (rel_start (bodies_of s) (relations_of s)) (search (and_right, p.3));
     }
-
--- ---- the whole sheet
-
-pub sheet_stops : (s : List ℕ) (h : ℕ) → h ≡ header_fault s → (h ≡ 0 → ⊥) → h ≡ sheet_fault s
-unfolding sheet_fault
-sheet_stops s h e ne = rw (← e) (or_else_first h _ ne)
-
-pub sheet_records : (s : List ℕ) (h m k b r w : ℕ) → h ≡ header_fault s → h ≡ 0 → m ≡ bodies_of s → k ≡ relations_of s
-    → b ≡ bodies_fault s m → r ≡ rels_fault s k → w ≡ or_else b r → w ≡ sheet_fault s
-unfolding sheet_fault
-sheet_records s h m k b r w eh z em ek eb er ew = let e : header_fault s ≡ 0 = sym eh ∙ z in rw (ew, eb, er, em, ek, e)
 
 -- ---- one test after another
 

@@ -2,11 +2,13 @@
 // bodies that its ends name (6) and its doubles (7).
 
 ghost use Rattle.std.specs.Prelude.{◌≡◌, ◌+◌, ◌*◌, ◌≤◌, ◌<◌, length};
+ghost use Rattle.faults.specs.Fault.{number_of};
 ghost use Rattle.records.specs.Record as fields;
 ghost use Rattle.format.specs.Words.{Tells};
 ghost use Rattle.format.specs.Faults as spec;
 
 use crate::words::{double_over, none_over, vec_over, zero_bytes};
+use faults::fault::Fault;
 use records::record::{u16_at, u32_at};
 
 // The limits of a double by their bits: 1.01 for directions, frame axes and references, 1000 for all others.
@@ -34,16 +36,18 @@ fn word_at(s: &[u8], o: usize) -> usize
     u32_at(s, o) as usize
 }
 
+// Which fields a law and a primitive use, by the bytes that stand for them: a byte is tested here, before it is a kind.
+
 fn uses_offset(law: u8) -> bool
     ensures { result ≡ fields.uses_offset law }
 {
-    (law == 0) | ((law == 1) | ((law == 3) | ((law == 4) | (law == 6))))
+    matches!(law, 0 | 1 | 3 | 4 | 6)
 }
 
 fn uses_angle(law: u8) -> bool
     ensures { result ≡ fields.uses_angle law }
 {
-    (law == 2) | ((law == 6) | (law == 7))
+    matches!(law, 2 | 6 | 7)
 }
 
 fn uses_reference(law: u8) -> bool
@@ -55,7 +59,7 @@ fn uses_reference(law: u8) -> bool
 fn uses_flag(law: u8) -> bool
     ensures { result ≡ fields.uses_flag law }
 {
-    (law == 3) | ((law == 4) | (law == 6))
+    matches!(law, 3 | 4 | 6)
 }
 
 fn uses_joint(law: u8) -> bool
@@ -67,7 +71,7 @@ fn uses_joint(law: u8) -> bool
 fn uses_mirrored(law: u8) -> bool
     ensures { result ≡ fields.uses_mirrored law }
 {
-    (law == 6) | (law == 7)
+    matches!(law, 6 | 7)
 }
 
 fn uses_teeth(law: u8) -> bool
@@ -85,13 +89,13 @@ fn uses_end_radius(law: u8) -> bool
 fn uses_third(law: u8) -> bool
     ensures { result ≡ fields.uses_third law }
 {
-    (law == 5) | (law == 7)
+    matches!(law, 5 | 7)
 }
 
 fn uses_direction(prim: u8) -> bool
     ensures { result ≡ fields.uses_direction prim }
 {
-    !(prim == 2)
+    prim != 2
 }
 
 fn uses_circle_radius(prim: u8) -> bool
@@ -100,6 +104,7 @@ fn uses_circle_radius(prim: u8) -> bool
     prim == 3
 }
 
+#[tactic(auto, unfolding(crate::specs::Faults::header_zeros))]
 fn header_zeros(s: &[u8]) -> bool
     requires { 24 ≤ length s.now }
     ensures { result ≡ spec.header_zeros s.now }
@@ -110,6 +115,7 @@ fn header_zeros(s: &[u8]) -> bool
     (version == 1) & ((after_counts == 0) & (last == 0))
 }
 
+#[tactic(auto, unfolding(crate::specs::Faults::header_counts))]
 fn header_counts(s: &[u8]) -> bool
     requires { 24 ≤ length s.now }
     ensures { result ≡ spec.header_counts s.now }
@@ -119,6 +125,7 @@ fn header_counts(s: &[u8]) -> bool
     (m <= 64) & (k <= 128)
 }
 
+#[tactic(auto, unfolding(crate::specs::Faults::header_offsets))]
 fn header_offsets(s: &[u8]) -> bool
     requires { 24 ≤ length s.now }
     ensures { result ≡ spec.header_offsets s.now }
@@ -132,24 +139,27 @@ fn header_offsets(s: &[u8]) -> bool
     (bodies == 24) & ((rels == 24 + 136 * m) & ((end == whole) & (s.len() == whole)))
 }
 
-fn header_fault(s: &[u8]) -> u32
-    ensures { result ≡ spec.header_fault s.now }
+#[tactic(auto, unfolding(crate::specs::Faults::header_fault))]
+fn header_fault(s: &[u8]) -> Result<(), Fault>
+    ensures { number_of result ≡ spec.header_fault s.now }
 {
     if s.len() < 24 {
-        return 1;
+        return Err(Fault::Short);
     }
-    if header_zeros(s) {
-        if header_counts(s) {
-            if header_offsets(s) { 0 } else { 4 }
-        } else {
-            3
-        }
-    } else {
-        2
+    if !header_zeros(s) {
+        return Err(Fault::Header);
     }
+    if !header_counts(s) {
+        return Err(Fault::Counts);
+    }
+    if !header_offsets(s) {
+        return Err(Fault::Offsets);
+    }
+    Ok(())
 }
 
 // A byte that is up to `most` where it is used, and 0 else.
+#[tactic(auto, unfolding(crate::specs::Faults::byte_up_to))]
 fn byte_up_to(used: bool, most: u8, b: u8) -> bool
     ensures { result ≡ spec.byte_up_to used most b }
 {
@@ -157,16 +167,15 @@ fn byte_up_to(used: bool, most: u8, b: u8) -> bool
 }
 
 // The n bytes from o on, 0 unless they are used.
+#[tactic(auto, unfolding(crate::specs::Faults::used_or_zero))]
 fn used_or_zero(used: bool, s: &[u8], o: usize, n: usize) -> bool
     requires { o + n ≤ length s.now }
     ensures { result ≡ spec.used_or_zero used s.now o n }
 {
-    if used {
-        return true;
-    }
-    zero_bytes(s, o, n)
+    used || zero_bytes(s, o, n)
 }
 
+#[tactic(auto, unfolding(crate::specs::Faults::body_shape))]
 fn body_shape(s: &[u8], o: usize) -> bool
     requires { o + 136 ≤ length s.now }
     ensures { result ≡ spec.body_shape s.now o }
@@ -176,6 +185,7 @@ fn body_shape(s: &[u8], o: usize) -> bool
     (fixed <= 1) & zeros
 }
 
+#[tactic(auto, unfolding(crate::specs::Faults::end_shape))]
 fn end_shape(law: u8, s: &[u8], e: usize) -> bool
     requires { e + 72 ≤ length s.now }
     ensures { result ≡ spec.end_shape law s.now e }
@@ -190,16 +200,19 @@ fn end_shape(law: u8, s: &[u8], e: usize) -> bool
 }
 
 // The third end, all 0 unless it is used.
+#[tactic(auto, unfolding(crate::specs::Faults::third_shape))]
 fn third_shape(law: u8, s: &[u8], e: usize) -> bool
     requires { e + 72 ≤ length s.now }
     ensures { result ≡ spec.third_shape law s.now e }
 {
     if uses_third(law) {
-        return end_shape(law, s, e);
+        end_shape(law, s, e)
+    } else {
+        zero_bytes(s, e, 72)
     }
-    zero_bytes(s, e, 72)
 }
 
+#[tactic(auto, unfolding(crate::specs::Faults::rel_shape))]
 fn rel_shape(s: &[u8], r: usize) -> bool
     requires { r + 264 ≤ length s.now }
     ensures { result ≡ spec.rel_shape s.now r }
@@ -221,6 +234,7 @@ fn rel_shape(s: &[u8], r: usize) -> bool
 }
 
 // A wheel's teeth, 1 to 400.
+#[tactic(auto, unfolding(crate::specs::Faults::teeth_fit))]
 fn teeth_fit(s: &[u8], o: usize) -> bool
     requires { o + 2 ≤ length s.now }
     ensures { result ≡ spec.teeth_fit (fields.u16_at s.now o) }
@@ -229,6 +243,7 @@ fn teeth_fit(s: &[u8], o: usize) -> bool
     (1 <= n) & (n <= MOST_TEETH)
 }
 
+#[tactic(auto, unfolding(crate::specs::Faults::rel_teeth))]
 fn rel_teeth(s: &[u8], r: usize) -> bool
     requires { r + 264 ≤ length s.now }
     ensures { result ≡ spec.rel_teeth s.now r }
@@ -240,6 +255,7 @@ fn rel_teeth(s: &[u8], r: usize) -> bool
 }
 
 // An end names a body or the ground.
+#[tactic(auto, unfolding(crate::specs::Faults::end_names))]
 fn end_names(m: usize, s: &[u8], e: usize) -> bool
     requires { e + 72 ≤ length s.now }
     ensures { result ≡ spec.end_names m s.now e }
@@ -248,6 +264,7 @@ fn end_names(m: usize, s: &[u8], e: usize) -> bool
     (body == GROUND) | (body < m)
 }
 
+#[tactic(auto, unfolding(crate::specs::Faults::rel_names))]
 fn rel_names(m: usize, s: &[u8], r: usize) -> bool
     requires { r + 264 ≤ length s.now }
     ensures { result ≡ spec.rel_names m s.now r }
@@ -297,80 +314,70 @@ fn rel_limits(s: &[u8], r: usize) -> bool
     none_over(offset | (angle | (reference | (a | (b | third)))))
 }
 
-pub fn body_fault(s: &[u8], o: usize) -> u32
+#[tactic(auto, unfolding(crate::specs::Faults::body_fault))]
+pub fn body_fault(s: &[u8], o: usize) -> Result<(), Fault>
     requires { o + 136 ≤ length s.now }
-    ensures { result ≡ spec.body_fault s.now o }
+    ensures { number_of result ≡ spec.body_fault s.now o }
 {
-    if body_shape(s, o) {
-        if body_limits(s, o) { 0 } else { 7 }
-    } else {
-        5
+    if !body_shape(s, o) {
+        return Err(Fault::Shape);
     }
+    if !body_limits(s, o) {
+        return Err(Fault::Limits);
+    }
+    Ok(())
 }
 
-pub fn rel_fault(m: usize, s: &[u8], r: usize) -> u32
+#[tactic(auto, unfolding(crate::specs::Faults::rel_fault))]
+pub fn rel_fault(m: usize, s: &[u8], r: usize) -> Result<(), Fault>
     requires { r + 264 ≤ length s.now }
-    ensures { result ≡ spec.rel_fault m s.now r }
+    ensures { number_of result ≡ spec.rel_fault m s.now r }
 {
-    if rel_shape(s, r) {
-        if rel_teeth(s, r) {
-            if rel_names(m, s, r) {
-                if rel_limits(s, r) { 0 } else { 7 }
-            } else {
-                6
-            }
-        } else {
-            14
-        }
-    } else {
-        5
+    if !rel_shape(s, r) {
+        return Err(Fault::Shape);
     }
-}
-
-// The first of two tests' numbers that is not 0.
-pub fn or_else(a: u32, b: u32) -> u32
-    ensures { result ≡ spec.or_else a b }
-{
-    if a == 0 { b } else { a }
+    if !rel_teeth(s, r) {
+        return Err(Fault::Teeth);
+    }
+    if !rel_names(m, s, r) {
+        return Err(Fault::Names);
+    }
+    if !rel_limits(s, r) {
+        return Err(Fault::Limits);
+    }
+    Ok(())
 }
 
 // The first fault among m bodies.
-fn bodies_fault(s: &[u8], m: usize) -> u32
+fn bodies_fault(s: &[u8], m: usize) -> Result<(), Fault>
     requires { 24 + 136 * m ≤ length s.now }
-    ensures { result ≡ spec.bodies_fault s.now m }
+    ensures { number_of result ≡ spec.bodies_fault s.now m }
 {
-    let mut fault: u32 = 0;
-    let mut i = 0;
-    while i < m {
-        fault = or_else(fault, body_fault(s, 24 + 136 * i));
-        i += 1;
+    for i in 0..m {
+        body_fault(s, 24 + 136 * i)?;
     }
-    fault
+    Ok(())
 }
 
 // The first fault among k relations of a sheet of m bodies.
-fn rels_fault(s: &[u8], m: usize, k: usize) -> u32
+fn rels_fault(s: &[u8], m: usize, k: usize) -> Result<(), Fault>
     requires { (m ≡ fields.u16_at s.now 2) × (24 + 136 * m + 264 * k ≤ length s.now) }
-    ensures { result ≡ spec.rels_fault s.now k }
+    ensures { number_of result ≡ spec.rels_fault s.now k }
 {
-    let mut fault: u32 = 0;
-    let mut j = 0;
-    while j < k {
-        fault = or_else(fault, rel_fault(m, s, 24 + 136 * m + 264 * j));
-        j += 1;
+    for j in 0..k {
+        rel_fault(m, s, 24 + 136 * m + 264 * j)?;
     }
-    fault
+    Ok(())
 }
 
-// Tests 1 to 7 and 14: the number of the first that fails, 0 for none.
-pub fn sheet_fault(s: &[u8]) -> u32
-    ensures { result ≡ spec.sheet_fault s.now }
+// Tests 1 to 7 and 14: the first that fails.
+#[tactic(auto, using(crate::proofs::RefusalLaws::header_passes, crate::proofs::RefusalLaws::or_else_fault), unfolding(crate::specs::Faults::sheet_fault))]
+pub fn sheet_fault(s: &[u8]) -> Result<(), Fault>
+    ensures { number_of result ≡ spec.sheet_fault s.now }
 {
-    let header = header_fault(s);
-    if header == 0 {
-        let m = number_at(s, 2);
-        let k = number_at(s, 4);
-        return or_else(bodies_fault(s, m), rels_fault(s, m, k));
-    }
-    header
+    header_fault(s)?;
+    let m = number_at(s, 2);
+    let k = number_at(s, 4);
+    bodies_fault(s, m)?;
+    rels_fault(s, m, k)
 }

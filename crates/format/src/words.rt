@@ -19,10 +19,8 @@ fn zero_words(s: &[u8], o: usize, k: usize) -> bool
     ensures { result ≡ fields.zero_bytes s.now o (8 * k) }
 {
     let mut zero = true;
-    let mut i = 0;
-    while i < k {
-        zero = zero & (u64_at(s, o + 8 * i) == 0);
-        i += 1;
+    for i in 0..k {
+        zero &= u64_at(s, o + 8 * i) == 0;
     }
     zero
 }
@@ -34,10 +32,8 @@ pub fn zero_bytes(s: &[u8], o: usize, n: usize) -> bool
 {
     let k = n / 8;
     let mut zero = zero_words(s, o, k);
-    let mut i = 8 * k;
-    while i < n {
-        zero = zero & (s[o + i] == 0);
-        i += 1;
+    for i in 8 * k..n {
+        zero &= s[o + i] == 0;
     }
     zero
 }

@@ -7,7 +7,6 @@ use mathlib.Core.Option.{Option, none, some}
 use Prim.Native.Nat.{ℕ, zero, suc, ◌+◌, ◌-◌, ◌*◌, ◌≤◌, ◌<◌}
 use native.Mathlib.Omega.{arith}
 use native.Mathlib.Decide.{dec_lt, ℕ_discrete}
-use borrow.Author.Tests.{eq-eqb}
 use lib.ListN.{length, get_or, set, drop, length-set, get_or-eq_default}
 use lib.Seq.{get_or-set_same, get_or-set_other, set-get_or, ext_get_or}
 use lib.Ieee.{Float, nan, binary64, div}
@@ -20,6 +19,7 @@ use Rattle.records.specs.Record.{body_at}
 use Rattle.least_squares.specs.Lm.{list_of, table_of, slope_of, slope, jacobian}
 use Rattle.least_squares.specs.Memory.{part}
 use Rattle.scene.specs.Solve.{Scene, moves, layout_from, layout, unknowns_in, three, moved_pose, pose_at, poses_from, poses_at, all_rows, half_size}
+use Rattle.std.specs.Prelude.{None}
 use Rattle.scene.specs.Scene.{first_unknown, scene_of, Laid, poses_doubles, poses_in, Put}
 use Rattle.scene.specs.declared.scene.Scene.{Scene as SceneStruct}
 use Rattle.slopes.specs.AnewSlopes.{given}
@@ -34,7 +34,7 @@ use Rattle.slopes.proofs.StillLaws.{slope_still}
 use Rattle.slopes.proofs.AnewLaws.{unknown_far, given_first, given_next, given_still}
 use Rattle.body_freedom.proofs.BodySlopeLaws.{zero_step, zero_ahead, zero_behind, step_at}
 use Rattle.freedom.specs.Total.{TotalApart, Waiting, ColumnsFrom, SlopesBy}
-use Rattle.freedom.specs.declared.total.TotalParts.{TotalParts as TotalPartsStruct}
+use Rattle.slopes.specs.declared.anew_slopes.SlopeParts.{SlopeParts as PartsStruct}
 
 -- ---- an entry of the scaled unknowns depends on the same entry alone
 
@@ -285,7 +285,7 @@ module _ (sheet : List ℕ) (c : SceneStruct) (i k : ℕ) (laid : Laid sheet c) 
       let step = ap (λ (l : List Float). get_or l e nan) q ∙ step_at e h ∙ zero_step c.n (k + e) in_all in
       λ z. slope_of (get_or (all_rows (plus z) sc.rels) r nan) (get_or (all_rows (minus z) sc.rels) r nan) (step z)
 
-  module _ (p : TotalPartsStruct) (s t moved₀ moved steps : List Float) (b' : Body) (same : b' ≡ b) (wait : Waiting sc c p s k) (y : MovedPoses b' moved₀ moved) (q : steps ≡ six_steps) where
+  module _ (p : PartsStruct) (s t moved₀ moved steps : List Float) (b' : Body) (same : b' ≡ b) (wait : Waiting sc c p s k) (y : MovedPoses b' moved₀ moved) (q : steps ≡ six_steps) where
     moved_by : MovedPoses b moved₀ moved
     moved_by = subst (λ (w : Body). MovedPoses w moved₀ moved) same y
 
@@ -305,7 +305,7 @@ module _ (sheet : List ℕ) (c : SceneStruct) (i k : ℕ) (laid : Laid sheet c) 
         }
 
 -- what `named_columns` asks
-pub six_clear : (sc : Scene) (c : SceneStruct) (p : TotalPartsStruct) (s : List Float) (k : ℕ) → k + 6 ≤ c.n → Waiting sc c p s k → Clear s (p.slopes + k) c.n c.rows
+pub six_clear : (sc : Scene) (c : SceneStruct) (p : PartsStruct) (s : List Float) (k : ℕ) → k + 6 ≤ c.n → Waiting sc c p s k → Clear s (p.slopes + k) c.n c.rows
 six_clear sc c p s k fit wait r e h l =
     let w : p.slopes + k + (r * c.n + e) ≡ p.slopes + (r * c.n + (k + e)) = omega arith in
     ap (λ (x : ℕ). get_or s x nan) w ∙ wait.clear r (k + e) h (omega arith) (omega arith)
@@ -315,32 +315,31 @@ six_still steps q e h v = ap (slope_of v v) (ap (λ (l : List Float). get_or l e
 
 -- ---- a body's columns, by its entry of the index
 
-pub columns_some : (sheet : List ℕ) (c : SceneStruct) (p : TotalPartsStruct) (s t : List Float) (i k : ℕ) → get_or (layout (scene_of sheet c)) i none ≡ some k
+pub columns_some : (sheet : List ℕ) (c : SceneStruct) (p : PartsStruct) (s t : List Float) (i k : ℕ) → get_or (layout (scene_of sheet c)) i none ≡ some k
     → ColumnsFrom (scene_of sheet c) c p s t k (k + 6)
     → ColumnsFrom (scene_of sheet c) c p s t (given (scene_of sheet c) i) (given (scene_of sheet c) (i + 1))
 columns_some sheet c p s t i k e g =
     let sc = scene_of sheet c in
     subst (λ (lo : ℕ). ColumnsFrom sc c p s t lo (given sc (i + 1))) (given_first sc i k e) (subst (λ (hi : ℕ). ColumnsFrom sc c p s t k hi) (given_next sc i k e) g)
 
-pub waiting_some : (sc : Scene) (c : SceneStruct) (p : TotalPartsStruct) (s : List Float) (i k : ℕ) → get_or (layout sc) i none ≡ some k → Waiting sc c p s (given sc i) → Waiting sc c p s k
+pub waiting_some : (sc : Scene) (c : SceneStruct) (p : PartsStruct) (s : List Float) (i k : ℕ) → get_or (layout sc) i none ≡ some k → Waiting sc c p s (given sc i) → Waiting sc c p s k
 waiting_some sc c p s i k e g = subst (λ (lo : ℕ). Waiting sc c p s lo) (sym (given_first sc i k e)) g
 
-pub columns_none : (sheet : List ℕ) (c : SceneStruct) (p : TotalPartsStruct) (s : List Float) (i : ℕ) → Laid sheet c → i < c.m → get_or c.index i 0 ≡ 0xFFFF
+pub columns_none : (sheet : List ℕ) (c : SceneStruct) (p : PartsStruct) (s : List Float) (i : ℕ) → Laid sheet c → i < c.m → get_or c.index i None ≡ None
     → Waiting (scene_of sheet c) c p s (given (scene_of sheet c) i)
     → ColumnsFrom (scene_of sheet c) c p s s (given (scene_of sheet c) i) (given (scene_of sheet c) (i + 1))
-unfolding first_unknown
 columns_none sheet c p s i laid h e g =
-    let w = given_still (scene_of sheet c) i (laid.index i h ∙ rw (eq-eqb (get_or c.index i 0) 0xFFFF e)) in
+    let w = given_still (scene_of sheet c) i (laid.index i h ∙ ap first_unknown e) in
     record { size = refl; entries = λ r d l m v. absurd (omega arith); others = λ q f. refl; order = omega arith; within = omega (arith, g.within) }
 
 -- ---- all columns
 
 -- the columns below hi are written, and the others wait
-pub record Sloped (sc : Scene) (c : SceneStruct) (p : TotalPartsStruct) (s : List Float) (hi : ℕ) : Type 0 where
+pub record Sloped (sc : Scene) (c : SceneStruct) (p : PartsStruct) (s : List Float) (hi : ℕ) : Type 0 where
   pub entries : (r d : ℕ) → r < c.rows → d < hi → get_or s (p.slopes + (r * c.n + d)) nan ≡ slope (scaled_rows sc) (zeros c.n) r d
   pub waiting : Waiting sc c p s hi
 
-module _ (sc : Scene) (c : SceneStruct) (p : TotalPartsStruct) (size : ℕ) (apart : TotalApart c p size) (s t : List Float) (lo hi : ℕ) (y : ColumnsFrom sc c p s t lo hi) where
+module _ (sc : Scene) (c : SceneStruct) (p : PartsStruct) (size : ℕ) (apart : TotalApart c p size) (s t : List Float) (lo hi : ℕ) (y : ColumnsFrom sc c p s t lo hi) where
   -- a place of another column
   other_column : (r d : ℕ) → r < c.rows → d < c.n → (lo ≤ d → d < hi → ⊥) → get_or t (p.slopes + (r * c.n + d)) nan ≡ get_or s (p.slopes + (r * c.n + d)) nan
   other_column r d h l f =
@@ -376,7 +375,7 @@ module _ (sc : Scene) (c : SceneStruct) (p : TotalPartsStruct) (size : ℕ) (apa
       go r d h l (no m) = y.entries r d h (omega arith) l
 
 -- the zeros scaled where they stand, and the poses there
-pub sloped_start : (sheet : List ℕ) (c : SceneStruct) (p : TotalPartsStruct) (s s1 s2 : List Float) → Laid sheet c → TotalApart c p (length s) → part s 0 c.n ≡ zeros c.n
+pub sloped_start : (sheet : List ℕ) (c : SceneStruct) (p : PartsStruct) (s s1 s2 : List Float) → Laid sheet c → TotalApart c p (length s) → part s 0 c.n ≡ zeros c.n
     → part s p.slopes (c.rows * c.n) ≡ zeros (c.rows * c.n)
     → Put s s1 0 c.n (scaled_from (part s 0 c.n) (scene_of sheet c).bodies (layout (scene_of sheet c)))
     → Put s1 s2 p.poses (12 * c.m) (poses_doubles (poses_at (scene_of sheet c) (part s1 0 c.n)))
@@ -405,7 +404,7 @@ sloped_start sheet c p s s1 s2 laid apart x j a b =
           };
     }
 
-pub sloped_end : (sc : Scene) (c : SceneStruct) (p : TotalPartsStruct) (s t : List Float) (hi : ℕ) → TotalApart c p (length s) → part s 0 c.n ≡ zeros c.n → length t ≡ length s → hi ≡ c.n
+pub sloped_end : (sc : Scene) (c : SceneStruct) (p : PartsStruct) (s t : List Float) (hi : ℕ) → TotalApart c p (length s) → part s 0 c.n ≡ zeros c.n → length t ≡ length s → hi ≡ c.n
     → Sloped sc c p t hi → SlopesBy (scaled_rows sc) s t p.slopes c.n c.rows 0
 unfolding jacobian
 sloped_end sc c p s t hi apart x k e g =

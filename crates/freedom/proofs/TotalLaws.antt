@@ -7,8 +7,7 @@ use mathlib.Core.Option.{Option, none, some}
 use Prim.Native.Nat.{ℕ, zero, suc, ◌+◌, ◌-◌, ◌*◌, ◌≤◌, ◌<◌, min}
 use native.Mathlib.Omega.{arith}
 use native.Mathlib.Numerals.{add-one}
-use native.Mathlib.Nat.{not-suc-le-zero, le_of_suc-le-suc, eq-or-lt_of_le, zero-add, add-zero, mul-le-mul}
-use borrow.Author.Tests.{eq-eqb, ne_eqb}
+use native.Mathlib.Nat.{not-suc-le-zero, le_of_suc-le-suc, eq-or-lt_of_le, zero-add, add-zero}
 use lib.Dec.{eqb}
 use lib.ListN.{length, get_or, set, take, drop, length-drop}
 use lib.Seq.{take-length, drop-cons}
@@ -21,6 +20,7 @@ use Rattle.least_squares.specs.Memory.{part, Kept}
 use Rattle.relations.specs.Model.{Body, Rel}
 use Rattle.records.specs.Record.{body_at}
 use Rattle.scene.specs.Scene.{scene_in}
+use Rattle.std.specs.Prelude.{Option as Entry, None, Some}
 use Rattle.scene.specs.Scene.{first_unknown, scene_of, Laid, Put}
 use Rattle.scene.specs.Solve.{moves, layout_from, layout, unknowns, half_size}
 use Rattle.body_freedom.specs.Dof.{columns_times, square_of, largest_value, scale_three, scaled_from, scaled_rows, stiff_count, rank_rel, unnamed_from, total_freedom, zeros, top}
@@ -35,20 +35,16 @@ use borrow.Rule.Slice.PartMut.{put_mid}
 use Rattle.freedom.specs.Values.{Values}
 use Rattle.freedom.specs.Freed.{need}
 use Rattle.freedom.specs.Total.{total_parts, TotalApart, scaled_by, SlopesBy, SquareRow, largest_of, stiff_one, stiff_of, rank_of, unnamed_one}
-use Rattle.freedom.specs.declared.total.TotalParts.{TotalParts as TotalPartsStruct}
+use Rattle.slopes.specs.declared.anew_slopes.SlopeParts.{SlopeParts as PartsStruct}
 
 -- ---- where the parts stand
 
--- of so many rows and unknowns there are few slopes, and few entries of their square
-pub few_entries : (c : SceneStruct) → c.rows ≤ 896 → c.n ≤ 384 → (c.rows * c.n ≤ 344064) × (c.n * c.n ≤ 147456)
-few_entries c h l = (mul-le-mul h l, mul-le-mul l l)
-
 -- each part from where the last ended: no part reaches into the next
-pub total_apart : (c : SceneStruct) (p : TotalPartsStruct) (size : ℕ) → p ≡ total_parts c → need c ≤ size → TotalApart c p size
+pub total_apart : (c : SceneStruct) (p : PartsStruct) (size : ℕ) → p ≡ total_parts c → need c ≤ size → TotalApart c p size
 total_apart c p size e h = rw e (record { x = omega arith; slopes = omega arith; poses = omega arith })
 
 -- the same in a scratch of the same size
-pub still_apart : (c : SceneStruct) (p : TotalPartsStruct) (size size' : ℕ) → size' ≡ size → TotalApart c p size → TotalApart c p size'
+pub still_apart : (c : SceneStruct) (p : PartsStruct) (size size' : ℕ) → size' ≡ size → TotalApart c p size → TotalApart c p size'
 still_apart c p size size' e h = record { x = h.x; slopes = h.slopes; poses = omega arith }
 
 -- what is lent from a on is the rest
@@ -84,17 +80,17 @@ scale_kept s z n o l h m =
     (kept_set s _ z (z + n) (o + 1) _ (omega arith) (omega arith) (kept_set s s z (z + n) o _ h (omega arith) (kept_refl s z (z + n))))
 
 -- a body that has no unknowns, and one that has
-pub scale_none : (s : List Float) (z n first : ℕ) (l : Float) → first ≡ 0xFFFF → Put s s z n (scaled_by (part s z n) l (first_unknown first))
-unfolding scaled_by first_unknown
-scale_none s z n first l e = rw (eq-eqb first 0xFFFF e) (record { holds = refl; kept = kept_refl s z (z + n) })
+pub scale_none : (s : List Float) (z n : ℕ) (first : Entry ℕ) (l : Float) → first ≡ None → Put s s z n (scaled_by (part s z n) l (first_unknown first))
+unfolding scaled_by
+scale_none s z n first l e = rw e (record { holds = refl; kept = kept_refl s z (z + n) })
 
-pub scale_some : (s t : List Float) (z n first : ℕ) (l : Float) → (first ≡ 0xFFFF → ⊥) → first + 6 ≤ n → t ≡ scale_three s (z + first + 3) l
+pub scale_some : (s t : List Float) (z n k : ℕ) (first : Entry ℕ) (l : Float) → first ≡ Some k → k + 6 ≤ n → t ≡ scale_three s (z + k + 3) l
     → Put s t z n (scaled_by (part s z n) l (first_unknown first))
-unfolding scaled_by first_unknown
-scale_some s t z n first l ne h f =
-    let w : z + first + 3 ≡ z + (first + 3) = omega arith in
-    rw (f, ne_eqb first 0xFFFF ne, w)
-    (record { holds = scale_part s z n (first + 3) l (omega arith); kept = scale_kept s z n (z + (first + 3)) l (omega arith) (omega arith) })
+unfolding scaled_by
+scale_some s t z n k first l e h f =
+    let w : z + k + 3 ≡ z + (k + 3) = omega arith in
+    rw (f, e, w)
+    (record { holds = scale_part s z n (k + 3) l (omega arith); kept = scale_kept s z n (z + (k + 3)) l (omega arith) (omega arith) })
 
 scaled_cons : (x : List Float) (b : Body) (bodies : List Body) (k : Option ℕ) (l : List (Option ℕ)) → scaled_from x (b ∷ bodies) (k ∷ l) ≡ scaled_from (scaled_by x (half_size b.size) k) bodies l
 unfolding scaled_from scaled_by
@@ -106,14 +102,14 @@ abbrev pub rest_scaled : List ℕ → SceneStruct → List Float → ℕ → Lis
 rest_scaled sheet c x i = scaled_from x (drop i (scene_of sheet c).bodies) (drop i (layout (scene_of sheet c)))
 
 scaled_next : (sheet : List ℕ) (c : SceneStruct) (x : List Float) (i : ℕ) → Laid sheet c → i < c.m
-    → rest_scaled sheet c x i ≡ rest_scaled sheet c (scaled_by x (half_size (body_at sheet (c.bodies + 136 * i)).size) (first_unknown (get_or c.index i 0))) (suc i)
+    → rest_scaled sheet c x i ≡ rest_scaled sheet c (scaled_by x (half_size (body_at sheet (c.bodies + 136 * i)).size) (first_unknown (get_or c.index i None))) (suc i)
 scaled_next sheet c x i laid h =
     (λ z. scaled_from x (bodies_next sheet c i h z) (layout_next sheet c i laid h z))
-    ∙ scaled_cons x (body_at sheet (c.bodies + 136 * i)) (drop (suc i) (scene_of sheet c).bodies) (first_unknown (get_or c.index i 0)) (drop (suc i) (layout (scene_of sheet c)))
+    ∙ scaled_cons x (body_at sheet (c.bodies + 136 * i)) (drop (suc i) (scene_of sheet c).bodies) (first_unknown (get_or c.index i None)) (drop (suc i) (layout (scene_of sheet c)))
 
 pub scaled_step : (sheet : List ℕ) (c : SceneStruct) (s t u : List Float) (z i : ℕ) (whole : List Float) → Laid sheet c → i < c.m → Kept s t z (z + c.n)
     → rest_scaled sheet c (part t z c.n) i ≡ whole
-    → Put t u z c.n (scaled_by (part t z c.n) (half_size (body_at sheet (c.bodies + 136 * i)).size) (first_unknown (get_or c.index i 0)))
+    → Put t u z c.n (scaled_by (part t z c.n) (half_size (body_at sheet (c.bodies + 136 * i)).size) (first_unknown (get_or c.index i None)))
     → Kept s u z (z + c.n) × (rest_scaled sheet c (part u z c.n) (i + 1) ≡ whole)
 scaled_step sheet c s t u z i whole laid h k e y = (
   kept_trans s t u z (z + c.n) k y.kept,
@@ -292,14 +288,14 @@ unfolding scene_in
 body_is sheet c i d h = get_d_list_of (λ i. body_at sheet (c.bodies + 136 * i)) c.m i d h
 
 pub unnamed_step : (sheet : List ℕ) (c : SceneStruct) (i : ℕ) → Laid sheet c → i < c.m
-    → rest_unnamed sheet c i ≡ unnamed_one (body_at sheet (c.bodies + 136 * i)).fixed (first_unknown (get_or c.index i 0)) + rest_unnamed sheet c (i + 1)
+    → rest_unnamed sheet c i ≡ unnamed_one (body_at sheet (c.bodies + 136 * i)).fixed (first_unknown (get_or c.index i None)) + rest_unnamed sheet c (i + 1)
 unfolding unnamed_from
 unnamed_step sheet c i laid h =
     let b = body_at sheet (c.bodies + 136 * i) in
     let rels = (scene_of sheet c).rels in
     let l : i < length (scene_of sheet c).bodies = rw (length_bodies sheet c) h in
     let q : is_some (get_or (layout (scene_of sheet c)) i none) ≡ moves rels i b = layout_moves rels 0 0 (scene_of sheet c).bodies i b l ∙ (λ j. moves rels (zero-add i j) (body_is sheet c i b h j)) in
-    let t = unnamed_test b.fixed (moves rels i b) (first_unknown (get_or c.index i 0)) (ap is_some (sym (laid.index i h)) ∙ q) in
+    let t = unnamed_test b.fixed (moves rels i b) (first_unknown (get_or c.index i None)) (ap is_some (sym (laid.index i h)) ∙ q) in
     rw add-one (ap (unnamed_from rels i) (bodies_next sheet c i h) ∙ ap (λ (k : ℕ). k + unnamed_from rels (suc i) (drop (suc i) (scene_of sheet c).bodies)) t)
 
 pub unnamed_done : (sheet : List ℕ) (c : SceneStruct) (i : ℕ) → i ≡ c.m → rest_unnamed sheet c i ≡ 0
@@ -315,7 +311,7 @@ unnamed_small fixed (some k) = omega arith
 -- ---- all
 
 -- what slope filling asks, of the whole scratch lent to it
-pub slopes_ready : (c : SceneStruct) (p : TotalPartsStruct) (s s1 s2 : List Float) → TotalApart c p (length s) → Put s s1 0 c.n (zeros c.n)
+pub slopes_ready : (c : SceneStruct) (p : PartsStruct) (s s1 s2 : List Float) → TotalApart c p (length s) → Put s s1 0 c.n (zeros c.n)
     → Put s1 s2 p.slopes (c.rows * c.n) (zeros (c.rows * c.n))
     → let w = take (length s2 - 0) (drop 0 s2) in
     TotalApart c p (length w) × ((part w 0 c.n ≡ zeros c.n) × (part w p.slopes (c.rows * c.n) ≡ zeros (c.rows * c.n)))
@@ -335,7 +331,7 @@ pub lent_finite : (f : List Float → List Float) (s q : List Float) (at n rows 
     → SlopesBy f (take (length s - 0) (drop 0 s)) q at n rows 0 → FiniteAt (take (length (put_mid 0 (length s - 0) s q) - at) (drop at (put_mid 0 (length s - 0) s q))) 0 (rows * n)
 lent_finite f s q at n rows h d = slopes_finite f (part (take (length s - 0) (drop 0 s)) 0 n) _ rows n h (slopes_lent f s q at n rows d)
 
-module _ (sheet : List ℕ) (c : SceneStruct) (p : TotalPartsStruct) (s s1 s2 q : List Float) (rank unused : ℕ) (laid : Laid sheet c) (fits : TotalApart c p (length s))
+module _ (sheet : List ℕ) (c : SceneStruct) (p : PartsStruct) (s s1 s2 q : List Float) (rank unused : ℕ) (laid : Laid sheet c) (fits : TotalApart c p (length s))
     (a : Put s s1 0 c.n (zeros c.n)) (b : Put s1 s2 p.slopes (c.rows * c.n) (zeros (c.rows * c.n)))
     (d : SlopesBy (scaled_rows (scene_of sheet c)) (take (length s2 - 0) (drop 0 s2)) q p.slopes c.n c.rows 0)
     (r : rank ≡ rank_rel (part (take (length (put_mid 0 (length s2 - 0) s2 q) - p.slopes) (drop p.slopes (put_mid 0 (length s2 - 0) s2 q))) 0 (c.rows * c.n)) c.rows c.n)

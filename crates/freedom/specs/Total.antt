@@ -13,7 +13,7 @@ use Rattle.scene.specs.Solve.{Scene, layout, poses_at}
 use Rattle.scene.specs.Scene.{poses_in}
 use Rattle.body_freedom.specs.Dof.{columns_times, zeros, scale_three, scaled_from, scaled_rows, total_freedom}
 use Rattle.scene.specs.declared.scene.Scene.{Scene as SceneStruct}
-use Rattle.freedom.specs.declared.total.TotalParts.{TotalParts as TotalPartsStruct}
+use Rattle.slopes.specs.declared.anew_slopes.SlopeParts.{SlopeParts as PartsStruct}
 
 -- ---- where the parts stand
 
@@ -22,11 +22,11 @@ abbrev pub squared : SceneStruct → ℕ
 squared c = c.n + c.rows * c.n + c.n * c.n + c.n
 
 -- each part from where the last ended, the unknowns from 0 on
-abbrev pub total_parts : SceneStruct → TotalPartsStruct
-total_parts c = record { slopes = c.n; poses = squared c }
+abbrev pub total_parts : SceneStruct → PartsStruct
+total_parts c = record { x = 0; slopes = c.n; poses = squared c }
 
 -- no part reaches into the next, and all stand within a scratch of this size
-pub record TotalApart (c : SceneStruct) (p : TotalPartsStruct) (size : ℕ) : Type 0 where
+pub record TotalApart (c : SceneStruct) (p : PartsStruct) (size : ℕ) : Type 0 where
   -- the unknowns, from 0 on
   pub x : c.n ≤ p.slopes
   -- the slopes, and directly behind them their square and its eigenvalues
@@ -42,13 +42,13 @@ scaled_by x l none = x
 scaled_by x l (some k) = scale_three x (k + 3) l
 
 -- the poses are those at unknowns that are all 0, and the columns of the slopes from lo on are +0
-pub record Waiting (sc : Scene) (c : SceneStruct) (p : TotalPartsStruct) (s : List Float) (lo : ℕ) : Type 0 where
+pub record Waiting (sc : Scene) (c : SceneStruct) (p : PartsStruct) (s : List Float) (lo : ℕ) : Type 0 where
   pub poses : poses_in s p.poses c.m ≡ poses_at sc (scaled_from (zeros c.n) sc.bodies (layout sc))
   pub clear : (r d : ℕ) → r < c.rows → lo ≤ d → d < c.n → get_or s (p.slopes + (r * c.n + d)) nan ≡ zero64
   pub within : lo ≤ c.n
 
 -- the columns from lo up to hi are slopes of the scaled rows at unknowns that are all 0; no other place has changed
-pub record ColumnsFrom (sc : Scene) (c : SceneStruct) (p : TotalPartsStruct) (s t : List Float) (lo hi : ℕ) : Type 0 where
+pub record ColumnsFrom (sc : Scene) (c : SceneStruct) (p : PartsStruct) (s t : List Float) (lo hi : ℕ) : Type 0 where
   pub size : length t ≡ length s
   pub entries : (r d : ℕ) → r < c.rows → lo ≤ d → d < hi → get_or t (p.slopes + (r * c.n + d)) nan ≡ slope (scaled_rows sc) (zeros c.n) r d
   pub others : (q : ℕ) → ((r d : ℕ) → r < c.rows → lo ≤ d → d < hi → q ≡ p.slopes + (r * c.n + d) → ⊥) → get_or t q nan ≡ get_or s q nan

@@ -1,13 +1,15 @@
 // `dof` of solve.rs, the whole assembly: the rank of the slopes of all rows along all unknowns, over parts of the lent scratch. `specs/Total.antt` has the definitions.
 
 ghost use Rattle.std.specs.Prelude.{◌≡◌, ◌+◌, ◌*◌, ◌≤◌, ◌<◌, length, get_or};
+ghost use Rattle.std.specs.Option.{ForSome};
 ghost use Rattle.std.proofs.Math.Option.{none, some};
 ghost use Rattle.numbers.specs.Double.{zero64};
 ghost use Rattle.body_freedom.specs.Dof as dof;
 ghost use Rattle.least_squares.specs.Filled.{FiniteAt};
 ghost use Rattle.least_squares.specs.Memory.{part};
 ghost use Rattle.records.specs.Record.{body_at};
-ghost use Rattle.scene.specs.Scene.{Laid, scene_of, first_unknown, Put};
+ghost use Rattle.scene.specs.Scene.{first_unknown, Put};
+ghost use Rattle.scene.specs.Sheet.{sheet_scene};
 ghost use Rattle.scene.specs.Solve.{layout, half_size};
 ghost use Rattle.slopes.specs.AnewSlopes.{given};
 ghost use Rattle.freedom.specs.Freed.{need};
@@ -17,31 +19,27 @@ use crate::values::values;
 use body_freedom::body_slopes::{moved_poses, six_steps};
 use body_freedom::square::columns_times;
 use least_squares::zeros::filled;
-use records::record;
-use scene::scene::{Scene, clear, half_size, poses_at};
+use scene::scene::{Sheet, clear, half_size};
+use slopes::anew_slopes::SlopeParts;
 use slopes::moved::named_columns;
 use vectors::root::sqrt;
 use vectors::tol::DOF_REL;
 
 // Where the parts of the scratch stand. In order, with R rows and n unknowns of m bodies: n unknowns from 0 on, R·n slopes, n² of their square, its n values, 12m for `poses`.
 // `TotalApart` says what each is for.
-#[derive(Clone, Copy)]
-struct TotalParts {
-    slopes: usize,
-    poses: usize,
-}
-
-// The parts, each from where the last ended.
-fn total_parts(scene: Scene) -> TotalParts
-    requires { (scene.rows ≤ 896) × (scene.n ≤ 384) }
-    ensures { result ≡ spec.total_parts scene }
+fn total_parts(sheet: Sheet) -> SlopeParts
+    ensures { result ≡ spec.total_parts sheet.entry.scene }
 {
-    let n = scene.n;
-    let rows = scene.rows;
+    let n = sheet.scene.n;
+    let rows = sheet.scene.rows;
     let square = n + rows * n;
     let values = square + n * n;
     let poses = values + n;
-    TotalParts { slopes: n, poses }
+    SlopeParts {
+        x: 0,
+        slopes: n,
+        poses,
+    }
 }
 
 // The three doubles from o on over l.
@@ -58,97 +56,90 @@ fn divide(s: &mut [f64], o: usize, l: f64)
 }
 
 // A body's turning unknowns over l, the n unknowns from z on; `first` is the body's entry of the index.
-fn scale_turns(s: &mut [f64], z: usize, n: usize, l: f64, first: u16)
+fn scale_turns(s: &mut [f64], z: usize, n: usize, l: f64, first: Option<u16>)
     requires n_in_bounds { z + n ≤ length s.old }
-    requires first_bound { (first ≡ 0xFFFF → ⊥) → first + 6 ≤ n }
+    requires first_bound { ForSome first (λ k. k + 6 ≤ n) }
     ensures { Put s.old s.new z n (spec.scaled_by (part s.old z n) l (first_unknown first)) }
 {
-    if first == 0xFFFF {
+    let Some(first) = first else {
         return;
-    }
+    };
     let k = first as usize;
     divide(s, z + k + 3, l);
 }
 
 // Body i's turning unknowns over half its size, the unknowns from z on.
-fn scale_body(sheet: &[u8], scene: Scene, s: &mut [f64], z: usize, i: usize)
-    requires laid { Laid sheet.now scene }
-    requires i_lt_m { i < scene.m }
-    requires n_in_bounds { z + scene.n ≤ length s.old }
-    ensures { Put s.old s.new z scene.n (spec.scaled_by (part s.old z scene.n) (half_size (body_at sheet.now (scene.bodies + 136 * i)).size) (first_unknown (get_or scene.index i 0))) }
+fn scale_body(sheet: Sheet, s: &mut [f64], z: usize, i: usize)
+    requires i_lt_m { i < sheet.scene.m }
+    requires n_in_bounds { z + sheet.scene.n ≤ length s.old }
+    ensures { Put s.old s.new z sheet.entry.scene.n (spec.scaled_by (part s.old z sheet.entry.scene.n) (half_size (body_at sheet.entry.bytes.now (sheet.entry.scene.bodies + 136 * i)).size) (first_unknown (get_or sheet.entry.scene.index i None))) }
 {
-    let b = record::body_at(sheet, scene.bodies + 136 * i);
+    let b = sheet.body(i);
     let l = half_size(b.size);
-    scale_turns(s, z, scene.n, l, scene.index[i]);
+    scale_turns(s, z, sheet.scene.n, l, sheet.scene.index[i]);
 }
 
 // Each moving body's turning unknowns over half its size.
-fn scale(sheet: &[u8], scene: Scene, s: &mut [f64], z: usize)
-    requires laid { Laid sheet.now scene }
-    requires n_in_bounds { z + scene.n ≤ length s.old }
-    ensures { Put s.old s.new z scene.n (dof.scaled_from (part s.old z scene.n) (scene_of sheet.now scene).bodies (layout (scene_of sheet.now scene))) }
+fn scale(sheet: Sheet, s: &mut [f64], z: usize)
+    requires n_in_bounds { z + sheet.scene.n ≤ length s.old }
+    ensures { Put s.old s.new z sheet.entry.scene.n (dof.scaled_from (part s.old z sheet.entry.scene.n) (sheet_scene sheet.entry).bodies (layout (sheet_scene sheet.entry))) }
 {
-    let m = scene.m;
+    let m = sheet.scene.m;
     for i in 0..m {
-        scale_body(sheet, scene, s, z, i);
+        scale_body(sheet, s, z, i);
     }
 }
 
 // Body i's six columns of the slopes, from column k on.
-fn six_columns(sheet: &[u8], scene: Scene, s: &mut [f64], parts: TotalParts, i: usize, k: usize)
-    requires laid { Laid sheet.now scene }
-    requires total_apart { spec.TotalApart scene parts (length s.old) }
-    requires i_lt_m { (i < scene.m) × (k + 6 ≤ scene.n) }
-    requires none_value { get_or (layout (scene_of sheet.now scene)) i none ≡ some k }
-    requires waiting { spec.Waiting (scene_of sheet.now scene) scene parts s.old k }
-    ensures { spec.ColumnsFrom (scene_of sheet.now scene) scene parts s.old s.new k (k + 6) }
+fn six_columns(sheet: Sheet, s: &mut [f64], parts: SlopeParts, i: usize, k: usize)
+    requires total_apart { spec.TotalApart sheet.scene parts (length s.old) }
+    requires i_lt_m { (i < sheet.scene.m) × (k + 6 ≤ sheet.scene.n) }
+    requires none_value { get_or (layout (sheet_scene sheet)) i none ≡ some k }
+    requires waiting { spec.Waiting (sheet_scene sheet) sheet.scene parts s.old k }
+    ensures { spec.ColumnsFrom (sheet_scene sheet.entry) sheet.entry.scene parts s.old s.new k (k + 6) }
 {
-    let b = record::body_at(sheet, scene.bodies + 136 * i);
+    let b = sheet.body(i);
     let mut moved = [0.0; 144];
     moved_poses(b, &mut moved);
     named_columns(
         sheet,
-        scene,
         s,
         parts.poses,
         i,
         &moved,
         six_steps(),
         parts.slopes + k,
-        scene.n,
+        sheet.scene.n,
     );
 }
 
 // The columns of body i, none where it has no unknowns.
-fn body_columns(sheet: &[u8], scene: Scene, s: &mut [f64], parts: TotalParts, i: usize)
-    requires laid { Laid sheet.now scene }
-    requires total_apart { spec.TotalApart scene parts (length s.old) }
-    requires i_lt_m { i < scene.m }
-    requires waiting { spec.Waiting (scene_of sheet.now scene) scene parts s.old (given (scene_of sheet.now scene) i) }
-    ensures { spec.ColumnsFrom (scene_of sheet.now scene) scene parts s.old s.new (given (scene_of sheet.now scene) i) (given (scene_of sheet.now scene) (i + 1)) }
+fn body_columns(sheet: Sheet, s: &mut [f64], parts: SlopeParts, i: usize)
+    requires total_apart { spec.TotalApart sheet.scene parts (length s.old) }
+    requires i_lt_m { i < sheet.scene.m }
+    requires waiting { spec.Waiting (sheet_scene sheet) sheet.scene parts s.old (given (sheet_scene sheet) i) }
+    ensures { spec.ColumnsFrom (sheet_scene sheet.entry) sheet.entry.scene parts s.old s.new (given (sheet_scene sheet.entry) i) (given (sheet_scene sheet.entry) (i + 1)) }
 {
-    let first = scene.index[i];
-    if first == 0xFFFF {
+    let first = sheet.scene.index[i];
+    let Some(k) = first else {
         return;
-    }
-    let k = first as usize;
-    six_columns(sheet, scene, s, parts, i, k);
+    };
+    six_columns(sheet, s, parts, i, k as usize);
 }
 
 // The slopes of the scaled rows at the unknowns from 0 on, which are 0, as the places of the slopes are. The unknowns are scaled where they stand, and the poses worked out once:
 // then the columns follow body by body. What stands beside the slopes afterwards is open: it is scratch.
-fn slopes(sheet: &[u8], scene: Scene, s: &mut [f64], parts: TotalParts)
-    requires laid { Laid sheet.now scene }
-    requires total_apart { spec.TotalApart scene parts (length s.old) }
-    requires n_value { part s.old 0 scene.n ≡ dof.zeros scene.n }
-    requires n_value_2 { part s.old parts.slopes (scene.rows * scene.n) ≡ dof.zeros (scene.rows * scene.n) }
-    ensures { spec.SlopesBy (dof.scaled_rows (scene_of sheet.now scene)) s.old s.new parts.slopes scene.n scene.rows 0 }
+fn slopes(sheet: Sheet, s: &mut [f64], parts: SlopeParts)
+    requires total_apart { spec.TotalApart sheet.scene parts (length s.old) }
+    requires n_value { part s.old 0 sheet.scene.n ≡ dof.zeros sheet.scene.n }
+    requires n_value_2 { part s.old parts.slopes (sheet.scene.rows * sheet.scene.n) ≡ dof.zeros (sheet.scene.rows * sheet.scene.n) }
+    ensures { spec.SlopesBy (dof.scaled_rows (sheet_scene sheet.entry)) s.old s.new parts.slopes sheet.entry.scene.n sheet.entry.scene.rows 0 }
 {
-    scale(sheet, scene, s, 0);
-    poses_at(sheet, scene, s, 0, parts.poses);
-    let m = scene.m;
+    scale(sheet, s, 0);
+    sheet.poses_at(s, 0, parts.poses);
+    let m = sheet.scene.m;
     for i in 0..m {
-        body_columns(sheet, scene, s, parts, i);
+        body_columns(sheet, s, parts, i);
     }
 }
 
@@ -186,13 +177,14 @@ fn largest(vals: &[f64]) -> f64
     ensures { result ≡ spec.largest_of zero64 vals.now }
 {
     let mut m = 0.0;
-    for i in 0..vals.len() {
-        m = numbers::max(m, vals[i]);
+    for v in vals {
+        m = numbers::max(m, *v);
     }
     m
 }
 
 // 1 for a value whose root is above DOF_REL of the largest.
+#[tactic(auto, unfolding(crate::specs::Total::stiff_one))]
 fn stiff_one(most: f64, v: f64) -> usize
     ensures { result ≡ spec.stiff_one most v }
 {
@@ -208,13 +200,14 @@ fn stiff_count(most: f64, vals: &[f64]) -> usize
     ensures { result ≡ spec.stiff_of most vals.now }
 {
     let mut count = 0;
-    for i in 0..vals.len() {
-        count = count + stiff_one(most, vals[i]);
+    for v in vals {
+        count += stiff_one(most, *v);
     }
     count
 }
 
 // The rank by the eigenvalues.
+#[tactic(auto, unfolding(crate::specs::Total::rank_of))]
 fn rank_of(vals: &[f64]) -> usize
     ensures { result ≡ spec.rank_of vals.now }
 {
@@ -247,46 +240,43 @@ fn rank_rel(s: &mut [f64], rows: usize, n: usize) -> usize
 }
 
 // 6 for a free body that no relation names, by its entry of the index.
-fn unnamed_one(fixed: bool, first: u16) -> usize
+#[tactic(auto, unfolding(crate::specs::Total::unnamed_one))]
+fn unnamed_one(fixed: bool, first: Option<u16>) -> usize
     ensures { result ≡ spec.unnamed_one fixed (first_unknown first) }
 {
-    if first == 0xFFFF {
-        if fixed { 0 } else { 6 }
-    } else {
-        0
+    match first {
+        None => if fixed { 0 } else { 6 },
+        Some(_) => 0,
     }
 }
 
 // Six for each free body that no relation names.
-fn unnamed(sheet: &[u8], scene: Scene) -> usize
-    requires { Laid sheet.now scene }
-    ensures { (result ≡ dof.unnamed_from (scene_of sheet.now scene).rels 0 (scene_of sheet.now scene).bodies) × (result ≤ 384) }
+fn unnamed(sheet: Sheet) -> usize
+    ensures { (result ≡ dof.unnamed_from (sheet_scene sheet.entry).rels 0 (sheet_scene sheet.entry).bodies) × (result ≤ 384) }
 {
-    let m = scene.m;
+    let m = sheet.scene.m;
     let mut count = 0;
     for i in 0..m {
-        let b = record::body_at(sheet, scene.bodies + 136 * i);
-        count = count + unnamed_one(b.fixed, scene.index[i]);
+        let b = sheet.body(i);
+        count = count + unnamed_one(b.fixed, sheet.scene.index[i]);
     }
     count
 }
 
 // The freedom of the whole assembly: the unknowns that no row resists, and six for each free body that no relation names. What stands in the scratch afterwards is open.
-pub fn total(sheet: &[u8], scene: Scene, s: &mut [f64]) -> usize
-    requires laid { Laid sheet.now scene }
-    requires rows_bound { (scene.rows ≤ 896) × (scene.n ≤ 384) }
-    requires scene_in_bounds { need scene ≤ length s.old }
-    ensures { spec.Counted (scene_of sheet.now scene) s.old s.new result }
+pub fn total(sheet: Sheet, s: &mut [f64]) -> usize
+    requires scene_in_bounds { need sheet.scene ≤ length s.old }
+    ensures { spec.Counted (sheet_scene sheet.entry) s.old s.new result }
 {
-    let n = scene.n;
-    let rows = scene.rows;
-    let parts = total_parts(scene);
+    let n = sheet.scene.n;
+    let rows = sheet.scene.rows;
+    let parts = total_parts(sheet);
     let x = 0;
     clear(s, x, n);
     clear(s, parts.slopes, rows * n);
-    slopes(sheet, scene, &mut s[x..], parts);
+    slopes(sheet, &mut s[x..], parts);
     let at = parts.slopes;
-    let rank = rank_rel(&mut s[at..], scene.rows, n);
-    let unused = unnamed(sheet, scene);
+    let rank = rank_rel(&mut s[at..], sheet.scene.rows, n);
+    let unused = unnamed(sheet);
     if rank < n { n - rank + unused } else { unused }
 }

@@ -10,117 +10,72 @@ use relations::geometry::Primitive;
 use relations::model::{JointKind, Law, Rel};
 use relations::rows::{Pair, is_plane, mate_prim};
 
+#[tactic(auto, unfolding(crate::specs::Count::mate_count))]
 fn mate_count(p: Pair) -> usize
     ensures { result ≡ spec.mate_count (pair_of p) }
 {
     match p {
-        Pair::Planes(_, _, _, _) => 4,
-        Pair::Lines(_, _, _, _) => 6,
-        Pair::Points(_, _) => 3,
-        Pair::PlanePoint(_, _, _) => 1,
-        Pair::LinePoint(_, _, _) => 3,
-        Pair::PlaneLine(_, _, _, _) => 2,
+        Pair::Planes(..) => 4,
+        Pair::Lines(..) => 6,
+        Pair::Points(..) | Pair::LinePoint(..) => 3,
+        Pair::PlanePoint(..) => 1,
+        Pair::PlaneLine(..) => 2,
         Pair::Other => 0,
     }
 }
 
+#[tactic(auto, unfolding(crate::specs::Count::tangent_count))]
 fn tangent_count(p: Pair) -> usize
     ensures { result ≡ spec.tangent_count (pair_of p) }
 {
     match p {
-        Pair::Planes(_, _, _, _) => 0,
-        Pair::Lines(_, _, _, _) => 4,
-        Pair::Points(_, _) => 1,
-        Pair::PlanePoint(_, _, _) => 1,
-        Pair::LinePoint(_, _, _) => 1,
-        Pair::PlaneLine(_, _, _, _) => 2,
-        Pair::Other => 0,
+        Pair::Lines(..) => 4,
+        Pair::Points(..) | Pair::PlanePoint(..) | Pair::LinePoint(..) => 1,
+        Pair::PlaneLine(..) => 2,
+        Pair::Planes(..) | Pair::Other => 0,
     }
 }
 
+#[tactic(auto, unfolding(crate::specs::Count::mirror_count))]
 fn mirror_count(p: Pair) -> usize
     ensures { result ≡ spec.mirror_count (pair_of p) }
 {
     match p {
-        Pair::Planes(_, _, _, _) => 4,
-        Pair::Lines(_, _, _, _) => 6,
-        Pair::Points(_, _) => 3,
-        Pair::PlanePoint(_, _, _) => 0,
-        Pair::LinePoint(_, _, _) => 0,
-        Pair::PlaneLine(_, _, _, _) => 0,
-        Pair::Other => 0,
+        Pair::Planes(..) => 4,
+        Pair::Lines(..) => 6,
+        Pair::Points(..) => 3,
+        _ => 0,
     }
 }
 
+#[tactic(auto, unfolding(crate::specs::Count::joint_count))]
 fn joint_count(kind: JointKind) -> usize
     ensures { result ≡ spec.joint_count kind }
 {
     match kind {
-        JointKind::Rigid => 7,
-        JointKind::Revolute => 6,
-        JointKind::Slider => 7,
-        JointKind::Cylindrical => 6,
+        JointKind::Rigid | JointKind::Slider => 7,
+        JointKind::Revolute | JointKind::Cylindrical => 6,
         JointKind::Planar => 4,
         JointKind::Ball => 3,
     }
 }
 
+#[tactic(auto, unfolding(crate::specs::Count::row_count))]
 fn law_count(law: Law, a: Primitive, b: Primitive) -> usize
     ensures { result ≡ spec.row_count (law_of law) (prim a) (prim b) }
 {
     match law {
-        Law::Mate { offset: _ } => mate_count(Pair::of(mate_prim(a), mate_prim(b))),
-        Law::Flush { offset: _ } => {
-            if is_plane(a) {
-                if is_plane(b) { 4 } else { 0 }
-            } else {
-                0
-            }
+        Law::Mate { .. } => mate_count(Pair::of(mate_prim(a), mate_prim(b))),
+        Law::Flush { .. } if is_plane(a) && is_plane(b) => 4,
+        Law::Angle { .. } if has_direction(a) && has_direction(b) => 1,
+        Law::Insert { .. } if is_circle(a) && is_circle(b) => 6,
+        Law::Tangent { .. } => tangent_count(Pair::of(a, b)),
+        Law::Symmetry { plane } if is_plane(plane.prim) => {
+            mirror_count(Pair::of(mate_prim(a), mate_prim(b)))
         }
-        Law::Angle {
-            angle: _,
-            reference: _,
-        } => {
-            if has_direction(a) {
-                if has_direction(b) { 1 } else { 0 }
-            } else {
-                0
-            }
-        }
-        Law::Insert {
-            offset: _,
-            aligned: _,
-        } => {
-            if is_circle(a) {
-                if is_circle(b) { 6 } else { 0 }
-            } else {
-                0
-            }
-        }
-        Law::Tangent {
-            offset: _,
-            inside: _,
-        } => tangent_count(Pair::of(a, b)),
-        Law::Symmetry { plane } => {
-            let p = plane.prim;
-            if is_plane(p) {
-                mirror_count(Pair::of(mate_prim(a), mate_prim(b)))
-            } else {
-                0
-            }
-        }
-        Law::Joint {
-            joint,
-            flip: _,
-            offset: _,
-            angle: _,
-        } => joint_count(joint),
-        Law::Gear {
-            teeth_a: _,
-            teeth_b: _,
-            angle: _,
-            carrier: _,
-        } => 1,
+        Law::Joint { joint, .. } => joint_count(joint),
+        Law::Gear { .. } => 1,
+        _ => 0,
     }
 }
 
@@ -128,10 +83,5 @@ fn law_count(law: Law, a: Primitive, b: Primitive) -> usize
 pub fn row_count(rel: Rel) -> usize
     ensures { result ≡ spec.row_count (law_of rel.law) (end_of rel.a).prim (end_of rel.b).prim }
 {
-    let law = rel.law;
-    let a = rel.a;
-    let b = rel.b;
-    let pa = a.prim;
-    let pb = b.prim;
-    law_count(law, pa, pb)
+    law_count(rel.law, rel.a.prim, rel.b.prim)
 }

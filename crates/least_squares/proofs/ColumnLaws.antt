@@ -7,6 +7,7 @@ use Prim.Native.Nat.{ℕ, ◌+◌, ◌*◌, ◌≤◌, ◌<◌}
 use native.Mathlib.Omega.{arith}
 use native.Mathlib.Nat.{zero-add, mul-le-mul_right}
 use lib.ListN.{length, get_or, take}
+use lib.Seq.{length-take-le, take_all}
 use lib.Ieee.{Float, nan, binary64, mul, eq}
 use lib.Ieee.Fits.{mul-fits}
 use Rattle.numbers.specs.Double.{zero64, is_finite}
@@ -20,8 +21,14 @@ use Rattle.least_squares.specs.Memory.{Kept}
 use Rattle.least_squares.proofs.MemoryLaws.{kept_at_below, kept_at_above}
 
 -- each column of the list is one of the row's
-pub column_below : (s : List Float) (o n : ℕ) (list : List ℕ) (m j : ℕ) → n ≤ length list → Filled s o 1 n list m → j < m → get_or list j 0 < n
-column_below s o n list m j f r h = below_end (λ (c : ℕ). not (eq (get_or s (c * 1 + o) nan) zero64)) n list m j (let z = r.few in omega arith) r.holds h
+pub column_below : (s : List Float) (o n : ℕ) (list : List ℕ) (j : ℕ) → Filled s o 1 n list (length list) → j < length list → get_or list j 0 < n
+column_below s o n list j r h = below_end (λ (c : ℕ). not (eq (get_or s (c * 1 + o) nan) zero64)) n list (length list) j (omega arith) r.holds h
+
+-- the columns alone, taken from the front of the list
+pub columns_front : (s : List Float) (o n : ℕ) (list : List ℕ) (m : ℕ) → n ≤ length list → Filled s o 1 n list m → Filled s o 1 n (take m list) (length (take m list))
+columns_front s o n list m h r =
+    let e : length (take m list) ≡ m = length-take-le m list (let z = r.few in omega arith) in
+    rw e (record { few = r.few; holds = rw (take_all m (take m list) (omega arith)) r.holds })
 
 -- in memory that keeps the row the columns are the same
 pub columns_in : (s t : List Float) (o n : ℕ) (list : List ℕ) (m : ℕ) → ((c : ℕ) → c < n → get_or t (o + c) nan ≡ get_or s (o + c) nan) → Filled s o 1 n list m → Filled t o 1 n list m

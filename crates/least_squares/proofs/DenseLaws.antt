@@ -1,20 +1,20 @@
 -- What the steps of elimination do to memory that holds the system, and that they leave what follows alone. By the laws of parts. Assumes nothing.
 use mathlib.Core.Path.{◌≡◌, refl, sym, ap, ◌∙◌}
 use mathlib.Core.Bool.{Bool, true, false, ◌&&◌, cond}
-use mathlib.Core.List.{List, ◌∷◌}
+use mathlib.Core.List.{List}
 use mathlib.Core.Option.{Option, none, some}
 use Prim.Native.Nat.{ℕ, zero, suc, ◌+◌, ◌-◌, ◌*◌, ◌≤◌, ◌<◌}
 use native.Mathlib.Nat.{mul-le-mul_right, suc-mul, add-zero, add-suc, add_comm}
 use native.Mathlib.Omega.{arith}
-use lib.ListN.{length, get_or, set, take}
-use lib.Seq.{get_or-take, take-set-lt, take-set-le, drop-cons, length-take-le}
+use lib.ListN.{get_or, set, take}
+use lib.Seq.{get_or-take, take-set-lt, take-set-le}
 use borrow.Author.Tests.{eq-eqb, ne_eqb}
 use lib.Dec.{ltb}
 use lib.Ieee.{Float, nan, inf, fin, binary64, sub, mul, div, neg, lt, le, eq, of_bits, up, down}
 use Rattle.numbers.proofs.DoubleLaws.{abs_negative, abs_positive}
-use Rattle.numbers.specs.Double.{zero64, negative, is_finite, fmax, abs}
+use Rattle.numbers.specs.Double.{zero64, negative, abs}
 use Rattle.least_squares.specs.Memory.{part, Kept}
-use Rattle.least_squares.specs.Lm.{System, largest_to, scale_of, pivot_to, exchange, swap_to, pivoted, take_off_to, clear_row, clear_to, clear_column, eliminate_to, rest_to, back_to, all_finite, answer_of, solve_dense}
+use Rattle.least_squares.specs.Lm.{System, scale_of, pivot_to, exchange, swap_to, pivoted, take_off_to, clear_row, clear_to, clear_column, eliminate_to, rest_to, back_to, all_finite, answer_of, solve_dense}
 use Rattle.least_squares.specs.Dense.{system_at, PivotOf, Became, given, Reached, Dense}
 use Rattle.least_squares.proofs.MemoryLaws.{part_at, part_set, kept_refl, kept_set, kept_trans, kept_wider, kept_part_above}
 use Rattle.least_squares.proofs.TableLaws.{in_rows}
@@ -56,11 +56,6 @@ pub magnitude_below : (x t : Float) → (lt x t && lt (neg t) x) ≡ true → lt
 magnitude_below x t h = let p = both (lt x t) (lt (neg t) x) h in by_sign x t (negative x) refl p.0 p.1
 
 -- ---- the front part, that is the matrix: what is read there, and what a step makes of it
-
-pub largest_front : (s : List Float) (m k : ℕ) → k ≤ m → largest_to (take m s) k ≡ largest_to s k
-unfolding largest_to
-largest_front s m zero h = refl
-largest_front s m (suc k) h = rw (get_or-take m s k nan h, largest_front s m k (omega arith))
 
 pub pivot_front : (s : List Float) (n col k : ℕ) → col < n → col + k ≤ n → pivot_to (take (n * n) s) n col k ≡ pivot_to s n col k
 unfolding pivot_to
@@ -299,17 +294,7 @@ rest_next s n r k h =
 
 -- ---- a part whose every double is finite
 
-pub part_cons : (s : List Float) (o k : ℕ) → o < length s → part s o (suc k) ≡ get_or s o nan ∷ part s (suc o) k
-part_cons s o k h = ap (take (suc k)) (drop-cons s o nan h)
-
-pub finite_next : (s : List Float) (o k : ℕ) → o < length s → all_finite (part s o (suc k)) ≡ is_finite (get_or s o nan) && all_finite (part s (suc o) k)
-unfolding all_finite
-finite_next s o k h = rw (part_cons s o k h)
-
 -- ---- the answer
-
-pub scale_front : (s : List Float) (n : ℕ) → n * n ≤ length s → fmax (largest_to s (n * n)) (of_bits binary64 0x01A5_6E1F_C2F8_F359) ≡ scale_of (part s 0 (n * n))
-scale_front s n h = rw (length-take-le (n * n) s h, largest_front s (n * n) (n * n) (omega arith))
 
 told_by : (ok : Bool) (y : List Float) (o : Option (List Float)) → o ≡ cond ok (some y) none → ok ≡ given o
 told_by true y o e = rw e

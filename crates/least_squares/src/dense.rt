@@ -3,7 +3,6 @@
 
 ghost use Rattle.std.specs.Prelude.{◌≡◌, ◌+◌, ◌*◌, ◌-◌, ◌≤◌, ◌<◌, ◌&&◌, length};
 ghost use Rattle.std.specs.Float.Ieee.{lt, neg};
-ghost use Rattle.least_squares.specs.Memory.{part};
 ghost use Rattle.least_squares.specs.Dense.{system_at, PivotOf, Became, Reached, Dense};
 ghost use Rattle.least_squares.specs.Lm as spec;
 
@@ -26,14 +25,12 @@ fn below(x: f64, t: f64) -> bool
     x < t && -t < x
 }
 
-// The largest magnitude among the first m.
-fn largest(s: &[f64], m: usize) -> f64
-    requires { m ≤ length s.now }
-    ensures { result ≡ spec.largest_to s.now m }
+// Returns the largest magnitude.
+fn largest(s: &[f64]) -> f64
+    ensures { result ≡ spec.largest_to s.now (length s.now) }
 {
     let mut t = 0.0;
-    for i in 0..m {
-        let x = s[i];
+    for &x in s {
         if below(x, t) {
             continue;
         }
@@ -64,18 +61,8 @@ fn find_pivot(s: &[f64], n: usize, col: usize) -> Pivot
     Pivot { best, row }
 }
 
-// Two entries exchanged.
-fn exchange(s: &mut [f64], i: usize, j: usize)
-    requires i_in_bounds { i < length s.old }
-    requires j_in_bounds { j < length s.old }
-    ensures { s.new ≡ spec.exchange s.old i j }
-{
-    let x = s[i];
-    s[i] = s[j];
-    s[j] = x;
-}
-
 // Rows p and col of the matrix exchanged.
+#[tactic(auto, unfolding(crate::specs::Lm::swap_to))]
 fn swap_rows(s: &mut [f64], n: usize, p: usize, col: usize)
     requires n_in_bounds { p * n + n ≤ length s.old }
     requires n_in_bounds_2 { col * n + n ≤ length s.old }
@@ -84,11 +71,12 @@ fn swap_rows(s: &mut [f64], n: usize, p: usize, col: usize)
     let po = p * n;
     let co = col * n;
     for k in 0..n {
-        exchange(s, po + k, co + k);
+        s.swap(po + k, co + k);
     }
 }
 
 // f times row col taken off row r, from column col on.
+#[tactic(auto, unfolding(crate::specs::Lm::take_off_to))]
 fn take_off(s: &mut [f64], n: usize, r: usize, col: usize, f: f64)
     requires n_in_bounds { r * n + n ≤ length s.old }
     requires n_in_bounds_2 { col * n + n ≤ length s.old }
@@ -98,7 +86,7 @@ fn take_off(s: &mut [f64], n: usize, r: usize, col: usize, f: f64)
     let ro = r * n;
     let co = col * n;
     for k in col..n {
-        s[ro + k] = s[ro + k] - f * s[co + k];
+        s[ro + k] -= f * s[co + k];
     }
 }
 
@@ -114,7 +102,7 @@ fn place_pivot(s: &mut [f64], n: usize, p: usize, col: usize)
     }
     swap_rows(s, n, p, col);
     let b = n * n;
-    exchange(s, b + p, b + col);
+    s.swap(b + p, b + col);
 }
 
 // Row r less the multiple of row col that clears its column col.
@@ -130,10 +118,11 @@ fn clear_row(s: &mut [f64], n: usize, r: usize, col: usize)
     }
     take_off(s, n, r, col, f);
     let b = n * n;
-    s[b + r] = s[b + r] - f * s[b + col];
+    s[b + r] -= f * s[b + col];
 }
 
 // The rows below row col.
+#[tactic(auto, unfolding(crate::specs::Lm::clear_to))]
 fn clear_below(s: &mut [f64], n: usize, col: usize)
     requires n_in_bounds { n * n + n ≤ length s.old }
     requires col_lt_n { col < n }
@@ -182,7 +171,7 @@ fn rest(s: &[f64], n: usize, r: usize) -> f64
     let ro = r * n;
     let mut t = s[b + r];
     for c in r + 1..n {
-        t = t - s[ro + c] * s[b + c];
+        t -= s[ro + c] * s[b + c];
     }
     t
 }
@@ -200,17 +189,11 @@ fn back(s: &mut [f64], n: usize)
     }
 }
 
-// Whether the n doubles from o on are finite.
-fn all_finite(s: &[f64], o: usize, n: usize) -> bool
-    requires { o + n ≤ length s.now }
-    ensures { result ≡ spec.all_finite (part s.now o n) }
+// True if every double is finite.
+fn all_finite(s: &[f64]) -> bool
+    ensures { result ≡ spec.all_finite s.now }
 {
-    for k in 0..n {
-        if !numbers::is_finite(s[o + k]) {
-            return false;
-        }
-    }
-    true
+    s.iter().all(|&x| numbers::is_finite(x))
 }
 
 // a y = b: whether there is an answer, which then stands in b's place. The matrix's place is scratch: what it holds at exit is open, and so is b's place where there is no answer.
@@ -218,10 +201,11 @@ pub fn solve_dense(s: &mut [f64], n: usize) -> bool
     requires { n * n + n ≤ length s.old }
     ensures { Dense s.old s.new n result }
 {
-    let scale = numbers::max(largest(s, n * n), LEAST_SCALE);
+    let b = n * n;
+    let scale = numbers::max(largest(&s[..b]), LEAST_SCALE);
     if !eliminate(s, n, scale) {
         return false;
     }
     back(s, n);
-    all_finite(s, n * n, n)
+    all_finite(&s[b..b + n])
 }

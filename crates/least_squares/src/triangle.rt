@@ -7,6 +7,7 @@ ghost use Rattle.least_squares.specs.LmPosts.{Across, Spread};
 use crate::lm::copy;
 
 // How many places the triangle of so many rows takes.
+#[tactic(auto, unfolding(crate::specs::Triangle::triangle))]
 pub fn places(rows: usize) -> usize
     requires { rows ≤ 896 }
     ensures { result ≡ triangle rows }

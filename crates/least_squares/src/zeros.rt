@@ -15,6 +15,7 @@ fn counts(v: f64) -> usize
 // Of k doubles, each `step` places behind the last and the first at o, writes the numbers of those that are no zeros to the
 // first places of the list. Returns how many there are. The list's contents at entry do not affect the result. A number is
 // written behind those listed in any case, without a branch, so that one place behind them is open.
+#[tactic(auto, unfolding(numbers::specs::Zeros::listed))]
 pub fn filled(s: &[f64], o: usize, step: usize, k: usize, list: &mut [usize]) -> usize
     requires by_index { (c : ℕ) → c < k → c * step + o < length s.now }
     requires k_in_bounds { k ≤ length list.old }
@@ -23,7 +24,7 @@ pub fn filled(s: &[f64], o: usize, step: usize, k: usize, list: &mut [usize]) ->
     let mut m = 0;
     for c in 0..k {
         list[m] = c;
-        m = m + counts(s[c * step + o]);
+        m += counts(s[c * step + o]);
     }
     m
 }

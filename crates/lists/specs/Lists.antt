@@ -2,6 +2,7 @@
 -- Definitions only.
 use Rattle.std.specs.Prelude.{ℕ, ◌+◌, ◌%◌, ◌^◌, Bool, cond, ◌==◌, nat_lt, to_bits, Float}
 use Rattle.std.specs.Float.{binary64}
+use Rattle.lists.specs.declared.answers.Tally.{Tally}
 
 -- The word n says how many records follow. After a wrong answer a list may be out of step and n be anything: from 2^16 on no record follows, and the counts differ.
 abbrev pub records : ℕ → ℕ
@@ -14,3 +15,11 @@ same x n = to_bits binary64 x == n
 -- One more wrong answer, unless it is right. A count goes on at 0 after 2^64 - 1.
 abbrev pub counted : ℕ → Bool → ℕ
 counted wrong right = cond right wrong ((wrong + 1) % 2 ^ 64)
+
+-- One answer, right or not.
+abbrev pub tally_of : Bool → Tally
+tally_of right = record { answers = 1; wrong = counted 0 right }
+
+-- The answers of both, counted likewise.
+abbrev pub tally_sum : Tally → Tally → Tally
+tally_sum a b = record { answers = (a.answers + b.answers) % 2 ^ 64; wrong = (a.wrong + b.wrong) % 2 ^ 64 }

@@ -4,7 +4,7 @@ ghost use Rattle.std.specs.Prelude.{◌≡◌};
 ghost use Rattle.lists.specs.Lists as spec;
 
 use numbers::bits;
-use std::num::wrapping_add_u64;
+use std::ops::Add;
 
 // Whether x is the double that a list's word n stands for.
 pub fn same(x: f64, n: u64) -> bool
@@ -17,9 +17,38 @@ pub fn same(x: f64, n: u64) -> bool
 pub fn counted(wrong: u64, right: bool) -> u64
     ensures { result ≡ spec.counted wrong right }
 {
-    if right {
-        wrong
-    } else {
-        wrapping_add_u64(wrong, 1)
+    if right { wrong } else { wrong.wrapping_add(1) }
+}
+
+// How many answers were compared, and how many of them are wrong.
+#[derive(Clone, Copy, Default)]
+pub struct Tally {
+    pub answers: u64,
+    pub wrong: u64,
+}
+
+// One answer.
+impl From<bool> for Tally {
+    ghost from_gives = { λ right tally. tally ≡ spec.tally_of right };
+
+    fn from(right: bool) -> Tally {
+        Tally {
+            answers: 1,
+            wrong: counted(0, right),
+        }
+    }
+}
+
+// The answers of both.
+impl Add for Tally {
+    type Output = Tally;
+
+    ghost add_gives = { λ a b sum. sum ≡ spec.tally_sum a b };
+
+    fn add(self, other: Tally) -> Tally {
+        Tally {
+            answers: self.answers.wrapping_add(other.answers),
+            wrong: self.wrong.wrapping_add(other.wrong),
+        }
     }
 }

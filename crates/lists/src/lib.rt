@@ -3,5 +3,6 @@
 #![tactic(auto)]
 
 pub mod answers;
+pub mod lent;
 pub mod list;
 pub mod vector;

@@ -1,9 +1,9 @@
 // A list read word by word, from its number of records to its end. No contract can say what a file holds: what is read has no promise, what is made of it has.
 
-ghost use Rattle.std.specs.Prelude.{◌≡◌, ◌+◌, ◌≤◌, length};
+ghost use Rattle.std.specs.Prelude.{◌≡◌, ◌+◌, ◌*◌, ◌/◌, ◌≤◌, length};
 ghost use Rattle.lists.specs.Lists as spec;
 
-use crate::answers::{counted, same};
+use crate::answers::{Tally, counted, same};
 use records::record::{double_at, u64_at};
 use std::fs::File;
 use std::io;
@@ -26,17 +26,11 @@ impl<F: Read> Read for ListFile<F> {
 }
 
 // Opens a list. Where that fails it says so, and what is read is as after a list's end.
-pub fn open<R: Files + Eprint>(rt: &R, path: &[u8]) -> io::Result<ListFile<R::File>> {
-    match str::from_utf8(path) {
-        Ok(name) => match File::open(rt, name) {
-            Ok(file) => Ok(ListFile { file: Some(file) }),
-            Err(e) => {
-                eprintln!(rt; "{name}: {e}")?;
-                Ok(ListFile { file: None })
-            }
-        },
-        Err(_) => {
-            eprintln!(rt; "a list's name is no text")?;
+fn open<R: Files + Eprint>(rt: &R, path: &str) -> io::Result<ListFile<R::File>> {
+    match File::open(rt, path) {
+        Ok(file) => Ok(ListFile { file: Some(file) }),
+        Err(e) => {
+            eprintln!(rt; "{path}: {e}")?;
             Ok(ListFile { file: None })
         }
     }
@@ -45,37 +39,21 @@ pub fn open<R: Files + Eprint>(rt: &R, path: &[u8]) -> io::Result<ListFile<R::Fi
 // The next word after a list's end.
 pub const END: u64 = 0xFFFF_FFFF_FFFF_FFFF;
 
-// Reads until s is full, the list ends or a read fails, and returns how many bytes it put at the start of s.
-pub fn read_full(file: &mut impl Read, s: &mut [u8]) -> usize
-    ensures { result ≤ length s.new }
-{
-    let mut done = 0;
-    for _ in 0..s.len() {
-        match file.read(&mut s[done..]) {
-            Ok(n) => {
-                if n == 0 {
-                    return done;
-                }
-                done += n;
-            }
-            Err(_) => return done,
-        }
-    }
-    done
+// The next eight bytes. Those that the list lacks are FF.
+fn eight(file: &mut impl Read) -> [u8; 8] {
+    let mut s = [0xFFu8; 8];
+    let _ = file.read_exact(&mut s);
+    s
 }
 
-// The next word. Bytes that the list lacks are FF, which no list has in a word of its own: as a count they are too large, and no double has such bits.
+// The next word. No list has FF bytes in a word of its own where it ends: as a count they are too large, and no double has such bits.
 pub fn word(file: &mut impl Read) -> u64 {
-    let mut s = [0xFFu8; 8];
-    read_full(file, &mut s);
-    u64_at(&s, 0)
+    u64_at(&eight(file), 0)
 }
 
 // The next double; a NaN after the list's end.
 pub fn double(file: &mut impl Read) -> f64 {
-    let mut s = [0xFFu8; 8];
-    read_full(file, &mut s);
-    double_at(&s, 0)
+    double_at(&eight(file), 0)
 }
 
 fn records(n: u64) -> u64
@@ -89,48 +67,56 @@ pub fn count(file: &mut impl Read) -> u64 {
     records(word(file))
 }
 
-// Reads n bytes, unless the list ends before them.
-pub fn filled(file: &mut impl Read, s: &mut [u8], n: usize) -> bool
-    requires { n ≤ length s.old }
+// Reads the first n bytes of s, which the list fills up to whole words.
+pub fn bytes(file: &mut impl Read, s: &mut [u8], n: usize)
+    requires { (n + 7) / 8 * 8 ≤ length s.old }
 {
-    read_full(file, &mut s[0..n]) == n
+    let _ = file.read_exact(&mut s[..(n + 7) / 8 * 8]);
 }
 
-// Reads the first k doubles of s.
-pub fn read(file: &mut impl Read, s: &mut [f64], k: usize)
-    requires { k ≤ length s.old }
-{
-    for i in 0..k {
-        s[i] = double(file);
+// Reads the doubles of s.
+pub fn read(file: &mut impl Read, s: &mut [f64]) {
+    for x in s {
+        *x = double(file);
     }
 }
 
-// Whether the n doubles from o on are the list's next.
-pub fn holds(file: &mut impl Read, s: &[f64], o: usize, n: usize) -> bool
-    requires { o + n ≤ length s.now }
-{
+// Whether the doubles of s are the list's next.
+pub fn holds(file: &mut impl Read, s: &[f64]) -> bool {
     let mut right = true;
-    for i in 0..n {
-        right = same(s[o + i], word(file)) & right;
+    for x in s {
+        right &= same(*x, word(file));
     }
     right
 }
 
-fn ends(file: &mut impl Read) -> bool {
-    let mut s = [0u8; 1];
-    read_full(file, &mut s) == 0
+// How many answers the records that follow have, and how many of them are wrong: `judge` reads a record and says whether its answer is right, or has a tally of several.
+pub fn tallied<F: Read, T: Into<Tally>, J: FnMut(&mut F) -> T>(file: &mut F, mut judge: J) -> Tally
+    requires { J.IsAlwaysCallable judge }
+{
+    let mut tally = Tally::default();
+    for _ in 0..count(file) {
+        tally = tally + judge(file).into();
+    }
+    tally
 }
 
-// Closes a list and prints how many answers it holds and how many of them are wrong, one more if it goes on after its records.
-pub fn close<F: Read + Drop>(
-    rt: &impl Print,
-    path: &[u8],
-    mut file: F,
-    answers: u64,
-    wrong: u64,
-) -> io::Result<()> {
-    let all = counted(wrong, ends(&mut file));
-    drop(file);
-    rt.write_all(path)?;
-    println!(rt; " answers {answers} wrong {all}")
+// Prints how many answers a list holds and how many of them are wrong, one more if it goes on after its records.
+fn close<F: Read + Drop>(rt: &impl Print, path: &str, mut file: F, tally: Tally) -> io::Result<()> {
+    let ends = file.read_exact(&mut [0u8]).is_err();
+    let wrong = counted(tally.wrong, ends);
+    println!(rt; "{path} answers {} wrong {wrong}", tally.answers)
+}
+
+// Replays a list, whose records `judge` reads as for `tallied`, and prints how many answers it holds and how many of them are wrong.
+pub fn replay<R: Files + Print + Eprint, T: Into<Tally>, J: FnMut(&mut ListFile<R::File>) -> T>(
+    rt: &R,
+    path: &str,
+    judge: J,
+) -> io::Result<()>
+    requires { J.IsAlwaysCallable judge }
+{
+    let mut file = open(rt, path)?;
+    let tally = tallied(&mut file, judge);
+    close(rt, path, file, tally)
 }

@@ -6,10 +6,11 @@ use std::io::Read;
 use vectors::vec::Vec3;
 
 pub fn vector(file: &mut impl Read) -> Vec3 {
-    let x = double(file);
-    let y = double(file);
-    let z = double(file);
-    Vec3 { x, y, z }
+    Vec3 {
+        x: double(file),
+        y: double(file),
+        z: double(file),
+    }
 }
 
 // Whether v is the list's next.

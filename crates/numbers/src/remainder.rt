@@ -8,12 +8,7 @@ ghost use Rattle.std.specs.Float.Ieee.Exact.{HasValue};
 ghost use Rattle.numbers.specs.Double as double;
 ghost use Rattle.numbers.specs.Bits as spec;
 
-use crate::is_finite;
-
-// the weights of the exponent's field and of the sign in a double's bits: 2^52 and 2^63
-const FIELD: u64 = 0x10_0000_0000_0000;
-
-const SIGN: u64 = 0x8000_0000_0000_0000;
+use crate::{FIELD, SIGN, is_finite};
 
 // Returns a finite double's significand from its bits.
 fn significand(b: u64) -> u64
@@ -96,7 +91,7 @@ pub fn remainder(a: f64, b: f64) -> f64
     if !is_finite(a) {
         return 0.0 / 0.0;
     }
-    if b != b {
+    if b.is_nan() {
         return b;
     }
     if b == 0.0 {

@@ -7,12 +7,14 @@ use Prim.Native.Nat.{ℕ, zero, suc, ◌+◌, ◌*◌, ◌≤◌, ◌<◌}
 use native.Mathlib.Omega.{arith}
 use native.Mathlib.Numerals.{add-one}
 use borrow.Author.Tests.{eq-eqb, ne_eqb}
-use lib.ListN.{length, get_or, set, take, drop, length-drop}
-use lib.Seq.{take-suc, get_or-drop}
+use lib.ListN.{length, set, drop}
 use lib.Dec.{eqb}
 use lib.Ieee.{Float, lt}
 use Rattle.numbers.specs.MaxAbs.{max_abs}
-use Rattle.vectors.specs.Space.{Frame}
+use Rattle.std.specs.Prelude.{unwrap_or, Some, None}
+use Rattle.std.specs.Prelude.{Option as MaybeOf}
+use Rattle.vectors.specs.declared.space.Frame.{Frame as FrameStruct}
+use Rattle.vectors.specs.Space.{Frame, frame, made}
 use Rattle.vectors.specs.Math.{frame_of}
 use Rattle.relations.specs.Geometry.{Pose, frame_or}
 use Rattle.relations.specs.Model.{Body, Rel}
@@ -52,11 +54,6 @@ list_none f = refl
 pub list_more : {A : Type 0} (f : ℕ → A) (i : ℕ) (v : A) → v ≡ f i → list_of f i ++ (v ∷ []) ≡ list_of f (i + 1)
 unfolding list_of
 list_more f i v e = ap (λ w. list_of f i ++ (w ∷ [])) e ∙ ap (list_of f) (sym (add-one i))
-
-pub part_more : (s : List Float) (o i : ℕ) (d : Float) → o + i < length s → part s o i ++ (get_or s (o + i) d ∷ []) ≡ part s o (i + 1)
-part_more s o i d h =
-    let l : i < length (drop o s) = simp length-drop (omega arith) in
-    ap (λ (w : Float). take i (drop o s) ++ (w ∷ [])) (sym (get_or-drop o s i d)) ∙ sym (take-suc (drop o s) i d l) ∙ ap (λ (w : ℕ). take w (drop o s)) (sym (add-one i))
 
 -- ---- errors
 
@@ -121,6 +118,11 @@ frames_list f g (suc n) =
 pub frames_are : (sheet : List ℕ) (c : SceneStruct) (s : List Float) (p : ℕ) → list_of (frame_in sheet c s p) c.m ≡ frames_from (poses_in s p c.m) (scene_of sheet c).bodies
 unfolding scene_in
 frames_are sheet c s p = sym (frames_list (λ i. pose_in s (p + 12 * i)) (λ i. body_at sheet (c.bodies + 136 * i)) c.m)
+
+-- the frame where there is one, else the other
+pub frame_or_is : (m : MaybeOf FrameStruct) (own : FrameStruct) (w : FrameStruct) → w ≡ unwrap_or m own → frame w ≡ frame_or (made m) (frame own)
+frame_or_is None own w e = ap frame e
+frame_or_is (Some f) own w e = ap frame e
 
 pub frame_at_is : (q q' : Pose Float) (b b' : Body) (m : Option Frame) (w : Frame) → q ≡ q' → b ≡ b' → m ≡ frame_of q.r q.t → w ≡ frame_or m b.frame → w ≡ frame_at q' b'
 frame_at_is q q' b b' m w e f g h = h ∙ ap (λ (n : Option Frame). frame_or n b.frame) g ∙ (λ z. frame_at (e z) (f z))

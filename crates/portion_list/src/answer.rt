@@ -1,69 +1,29 @@
 // Whether what a call gives and leaves is the list's answer. On acceptance the outputs begin with the list's next words, and the rest is as before; on refusal all
 // that was lent is as before. No contract says what a file holds, so whether an answer is the list's is open.
 
-ghost use Rattle.std.specs.Prelude.{◌<◌, ◌≤◌};
+ghost use Rattle.std.specs.Prelude.{◌≤◌};
 
-use crate::asked::BEFORE;
-use crate::solving::Values;
-use lists::answers::same;
+use crate::solving::{Outputs, Values};
+use lists::lent::{BEFORE, begins, count_at};
 use lists::list::word;
-use numbers::bits;
-use records::record::u16_at;
 use std::io::Read;
-
-// Whether the first n doubles are the list's next, and the rest is as before.
-fn holds(file: &mut impl Read, d: &[f64; 256], before: &[f64; 256], n: usize) -> bool {
-    let mut right = true;
-    for i in 0..256 {
-        let want = if i < n { word(file) } else { bits(before[i]) };
-        right = same(d[i], want) & right;
-    }
-    right
-}
 
 // Whether the whole numbers are the list's next.
 fn values_right(file: &mut impl Read, v: Values) -> bool {
-    let unknowns = word(file) == v.unknowns as u64;
-    let rows = word(file) == v.rows as u64;
-    let done = word(file) == v.done as u64;
-    let run = word(file) == v.run as u64;
-    let converged = word(file) == v.converged as u64;
+    let unknowns = word(file) == u64::from(v.unknowns);
+    let rows = word(file) == u64::from(v.rows);
+    let done = word(file) == u64::from(v.done);
+    let run = word(file) == u64::from(v.run);
+    let converged = word(file) == u64::from(v.converged);
     unknowns & rows & done & run & converged
 }
 
-fn values_equal(v: Values, w: Values) -> bool {
-    (v.unknowns == w.unknowns)
-        & ((v.rows == w.rows)
-            & ((v.done == w.done) & ((v.run == w.run) & (v.converged == w.converged))))
-}
-
-// The count at o in the head of a sheet; 0 if the list has a refusal.
-fn count(s: &[u8], o: usize, want: u64) -> usize
-    requires { o < 8 }
-    ensures { result < 0x1_0000 }
-{
-    if want != 0 {
-        return 0;
-    }
-    if s.len() < 24 {
-        return 0;
-    }
-    u16_at(s, o) as usize
-}
-
 // Whether the outputs begin with the list's next words, n of poses, n of frames and k of errors.
-fn outputs_right(
-    file: &mut impl Read,
-    n: usize,
-    k: usize,
-    poses: &[f64; 256],
-    frames: &[f64; 256],
-    errors: &[f64; 256],
-) -> bool {
+fn outputs_right(file: &mut impl Read, o: &Outputs, n: usize, k: usize) -> bool {
     let before = [BEFORE; 256];
-    let p = holds(file, poses, &before, n);
-    let f = holds(file, frames, &before, n);
-    let e = holds(file, errors, &before, k);
+    let p = begins(file, &o.poses, &before, n);
+    let f = begins(file, &o.frames, &before, n);
+    let e = begins(file, &o.errors, &before, k);
     p & f & e
 }
 
@@ -76,11 +36,13 @@ fn state_right(
     v: Values,
     state: &[f64; 256],
 ) -> bool {
-    let right = holds(file, state, before, n);
-    if v.number == 0 {
-        return right;
-    }
-    right & holds(file, state, before, 0) & values_equal(v, w)
+    let right = begins(file, state, before, n);
+    let kept = begins(file, state, before, 0)
+        && v == Values {
+            number: v.number,
+            ..w
+        };
+    right && (v.number == 0 || kept)
 }
 
 // n doubles of the state are lent, and before and w are what it and the whole numbers were before the call.
@@ -91,21 +53,18 @@ pub fn answer_right(
     before: &[f64; 256],
     w: Values,
     v: Values,
-    state: &[f64; 256],
-    poses: &[f64; 256],
-    frames: &[f64; 256],
-    errors: &[f64; 256],
+    o: &Outputs,
 ) -> bool
     requires { n ≤ 256 }
 {
     let words = word(file);
     let want = word(file);
-    let m = count(s, 2, want);
-    let k = count(s, 4, want);
+    let m = count_at(s, 2, want == 0);
+    let k = count_at(s, 4, want == 0);
     let whole = words == (6 + n + 24 * m + k) as u64;
-    let number = v.number as u64 == want;
+    let number = u64::from(v.number) == want;
     let values = values_right(file, v);
-    let held = state_right(file, n, before, w, v, state);
-    let outputs = outputs_right(file, 12 * m, k, poses, frames, errors);
+    let held = state_right(file, n, before, w, v, &o.state);
+    let outputs = outputs_right(file, o, 12 * m, k);
     whole & number & values & held & outputs
 }

@@ -4,11 +4,9 @@
 ghost use Rattle.std.specs.Prelude.{◌≡◌, ◌≤◌};
 ghost use Rattle.portion_list.specs.Asked as spec;
 
+use lists::lent::BEFORE;
 use lists::list::{double, read, word};
 use std::io::Read;
-
-// What stands in the doubles that are lent for an answer, before the call.
-pub const BEFORE: f64 = 2.5;
 
 // The set of parameters.
 #[derive(Clone, Copy)]
@@ -29,11 +27,36 @@ pub struct Lengths {
     pub errors: u64,
 }
 
-// Which call, 0 for beginning and 1 for going on; the drag, what it chooses, the portion, the counts of unknowns and of rows, what it is lent; how many doubles the
+// Which of the two calls: `Begin` is 0 in the list, and `On` is 1.
+#[derive(Clone, Copy)]
+pub enum Step {
+    Begin,
+    On,
+}
+
+// A number that names no call.
+#[derive(Clone, Copy)]
+pub struct UnknownStep(pub u64);
+
+impl TryFrom<u64> for Step {
+    type Error = UnknownStep;
+
+    ghost try_from_gives = { spec.Decodes };
+
+    fn try_from(n: u64) -> Result<Step, UnknownStep> {
+        match n {
+            0 => Ok(Step::Begin),
+            1 => Ok(Step::On),
+            _ => Err(UnknownStep(n)),
+        }
+    }
+}
+
+// Which call, if the list names one; the drag, what it chooses, the portion, the counts of unknowns and of rows, what it is lent; how many doubles the
 // list then gives for the state, 0 if the running state is the one that the call before left.
 #[derive(Clone, Copy)]
 pub struct Call {
-    pub which: u64,
+    pub step: Option<Step>,
     pub drag: u64,
     pub chosen: Chosen,
     pub portion: u64,
@@ -53,51 +76,34 @@ pub struct Running {
 }
 
 fn next_chosen(file: &mut impl Read) -> Chosen {
-    let tolerance = double(file);
-    let rounds = word(file);
-    let limit = word(file);
-    let weight = double(file);
     Chosen {
-        tolerance,
-        rounds,
-        limit,
-        weight,
+        tolerance: double(file),
+        rounds: word(file),
+        limit: word(file),
+        weight: double(file),
     }
 }
 
 fn next_lengths(file: &mut impl Read) -> Lengths {
-    let state = word(file);
-    let scratch = word(file);
-    let poses = word(file);
-    let frames = word(file);
-    let errors = word(file);
     Lengths {
-        state,
-        scratch,
-        poses,
-        frames,
-        errors,
+        state: word(file),
+        scratch: word(file),
+        poses: word(file),
+        frames: word(file),
+        errors: word(file),
     }
 }
 
 pub fn next_call(file: &mut impl Read) -> Call {
-    let which = word(file);
-    let drag = word(file);
-    let chosen = next_chosen(file);
-    let portion = word(file);
-    let unknowns = word(file);
-    let rows = word(file);
-    let lengths = next_lengths(file);
-    let given = word(file);
     Call {
-        which,
-        drag,
-        chosen,
-        portion,
-        unknowns,
-        rows,
-        lengths,
-        given,
+        step: Step::try_from(word(file)).ok(),
+        drag: word(file),
+        chosen: next_chosen(file),
+        portion: word(file),
+        unknowns: word(file),
+        rows: word(file),
+        lengths: next_lengths(file),
+        given: word(file),
     }
 }
 
@@ -116,7 +122,7 @@ pub fn next_running(file: &mut impl Read, given: u64, left: Running) -> Running 
     let done = word(file);
     let run = word(file);
     let mut doubles = [BEFORE; 256];
-    read(file, &mut doubles, at_most(given, 256));
+    read(file, &mut doubles[..at_most(given, 256)]);
     Running {
         done,
         run,
@@ -125,6 +131,7 @@ pub fn next_running(file: &mut impl Read, given: u64, left: Running) -> Running 
     }
 }
 
+#[tactic(auto, unfolding(crate::specs::Asked::lengths_fit))]
 fn lengths_fit(l: Lengths, given: u64) -> bool
     ensures { result ≡ spec.lengths_fit l given }
 {
@@ -135,10 +142,11 @@ fn lengths_fit(l: Lengths, given: u64) -> bool
                     & ((l.poses <= 256) & ((l.frames <= 256) & (l.errors <= 256))))))
 }
 
+#[tactic(auto, unfolding(crate::specs::Asked::counts_fit))]
 fn counts_fit(c: Call, q: Chosen) -> bool
     ensures { result ≡ spec.counts_fit c q }
 {
-    (c.which <= 1)
+    c.step.is_some()
         & ((c.drag <= 0xFFFF)
             & ((q.rounds <= 0xFFFF_FFFF)
                 & ((q.limit <= 0xFFFF_FFFF)

@@ -9,118 +9,71 @@ mod asked;
 mod solving;
 
 use answer::answer_right;
-use asked::{BEFORE, Lengths, Running, at_most, fits, next_call, next_running};
-use lists::answers::counted;
+use asked::{Call, Running, Step, at_most, fits, next_call, next_running};
+use lists::answers::Tally;
+use lists::lent::BEFORE;
 use lists::list;
-use lists::list::word;
-use solving::{Arguments, Values, arguments_of, solved, values_before};
+use lists::list::{replay, word};
+use solving::{arguments_of, solved, values_before};
 use std::io;
 use std::io::Read;
-use std::num::wrapping_add_u64;
-use std::rt::Files;
 
-#[derive(Clone, Copy)]
-struct Tally {
-    answers: u64,
-    wrong: u64,
-}
-
-// Whether a call gave the list's answer, and the running state that it left.
-#[derive(Clone, Copy)]
-struct Outcome {
-    right: bool,
-    running: Running,
-}
-
-// A call that fits: `doubles`, of which the list gave so many, and `w` are what the state's memory and the whole numbers are before it.
+// Whether a call that fits gives the list's answer, from a running state, which is then the one that it left.
 fn answered(
     file: &mut impl Read,
     s: &[u8],
-    which: u64,
-    q: Arguments,
-    w: Values,
-    l: Lengths,
     scratch: &mut [f64; 4096],
-    given: u64,
-    doubles: [f64; 256],
-) -> Outcome {
-    let mut state = doubles;
-    let mut poses = [BEFORE; 256];
-    let mut frames = [BEFORE; 256];
-    let mut errors = [BEFORE; 256];
-    let v = solved(
+    step: Step,
+    c: Call,
+    running: &mut Running,
+) -> bool {
+    let before = *running;
+    let w = values_before(c.unknowns, c.rows, before.done, before.run);
+    let (v, o) = solved(
         s,
-        which,
-        q,
+        step,
+        arguments_of(c),
         w,
-        l,
+        c.lengths,
         scratch,
-        &mut state,
-        &mut poses,
-        &mut frames,
-        &mut errors,
+        before.doubles,
     );
-    let n = at_most(l.state, 256);
-    let right = answer_right(file, s, n, &doubles, w, v, &state, &poses, &frames, &errors);
-    let running = Running {
-        done: v.done as u64,
-        run: v.run as u64,
-        given,
-        doubles: state,
+    *running = Running {
+        done: u64::from(v.done),
+        run: u64::from(v.run),
+        doubles: o.state,
+        ..before
     };
-    Outcome { right, running }
+    let n = at_most(c.lengths.state, 256);
+    answer_right(file, s, n, &before.doubles, w, v, &o)
 }
 
 // A call of a schedule, from the running state that the call before left.
-fn call(file: &mut impl Read, s: &[u8], scratch: &mut [f64; 4096], left: Running) -> Outcome {
+fn call(file: &mut impl Read, s: &[u8], scratch: &mut [f64; 4096], running: &mut Running) -> bool {
     let c = next_call(file);
-    let before = next_running(file, c.given, left);
-    if !fits(c, before.given, before.done, before.run) {
-        return Outcome {
-            right: false,
-            running: before,
-        };
+    let before = next_running(file, c.given, *running);
+    *running = before;
+    match c.step {
+        Some(step) if fits(c, before.given, before.done, before.run) => {
+            answered(file, s, scratch, step, c, running)
+        }
+        _ => false,
     }
-    let q = arguments_of(c);
-    let w = values_before(c.unknowns, c.rows, before.done, before.run);
-    let l = c.lengths;
-    let doubles = before.doubles;
-    answered(file, s, c.which, q, w, l, scratch, before.given, doubles)
 }
 
 // The calls of a schedule.
 fn schedule(file: &mut impl Read, s: &[u8], scratch: &mut [f64; 4096]) -> Tally {
-    let n = list::count(file);
     let mut running = Running {
         done: 0,
         run: 0,
         given: 0,
         doubles: [BEFORE; 256],
     };
-    let mut wrong = 0u64;
-    for _ in 0..n {
-        let o = call(file, s, scratch, running);
-        running = o.running;
-        wrong = counted(wrong, o.right);
-    }
-    Tally { answers: n, wrong }
-}
-
-// The schedules of a sheet.
-fn schedules(file: &mut impl Read, s: &[u8], scratch: &mut [f64; 4096]) -> Tally {
-    let n = list::count(file);
-    let mut answers = 0u64;
-    let mut wrong = 0u64;
-    for _ in 0..n {
-        let t = schedule(file, s, scratch);
-        answers = wrapping_add_u64(answers, t.answers);
-        wrong = wrapping_add_u64(wrong, t.wrong);
-    }
-    Tally { answers, wrong }
+    list::tallied(file, |file| call(file, s, scratch, &mut running))
 }
 
 // A sheet and its schedules.
-fn record(file: &mut impl Read, scratch: &mut [f64; 4096]) -> Tally {
+fn schedules(file: &mut impl Read, scratch: &mut [f64; 4096]) -> Tally {
     let mut s = [0u8; 2000];
     let bytes = word(file);
     if bytes > 2000 {
@@ -130,29 +83,16 @@ fn record(file: &mut impl Read, scratch: &mut [f64; 4096]) -> Tally {
         };
     }
     let n = bytes as usize;
-    list::filled(file, &mut s, (n + 7) / 8 * 8);
-    schedules(file, &s[0..n], scratch)
-}
-
-fn replay(
-    rt: &(impl Files + Print + Eprint),
-    path: &str,
-    scratch: &mut [f64; 4096],
-) -> io::Result<()> {
-    let mut file = list::open(rt, path.as_bytes())?;
-    let n = list::count(&mut file);
-    let mut answers = 0u64;
-    let mut wrong = 0u64;
-    for _ in 0..n {
-        let t = record(&mut file, scratch);
-        answers = wrapping_add_u64(answers, t.answers);
-        wrong = wrapping_add_u64(wrong, t.wrong);
-    }
-    list::close(rt, path.as_bytes(), file, answers, wrong)
+    list::bytes(file, &mut s, n);
+    list::tallied(file, |file| schedule(file, &s[..n], scratch))
 }
 
 // One scratch serves all calls and is never cleared.
 fn main(rt: HostRuntime) -> io::Result<()> {
     let mut scratch = [0.0 / 0.0; 4096];
-    replay(&rt, "sheets_portions.bin", &mut scratch)
+    replay(
+        &rt,
+        "sheets_portions.bin",
+        |file| schedules(file, &mut scratch),
+    )
 }

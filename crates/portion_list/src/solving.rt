@@ -3,7 +3,8 @@
 ghost use Rattle.std.specs.Prelude.{◌≡◌, ◌%◌, ◌^◌};
 ghost use Rattle.portion_list.specs.Asked as spec;
 
-use crate::asked::{Call, Lengths, at_most};
+use crate::asked::{Call, Lengths, Step, at_most};
+use lists::lent::BEFORE;
 use sheet::going::{sheet_solve_begin, sheet_solve_on};
 
 // The drag, the set and the portion as a call takes them.
@@ -18,7 +19,7 @@ pub struct Arguments {
 }
 
 // The number that a call gives, and what the whole numbers are that are handed over or lent to it.
-#[derive(Clone, Copy)]
+#[derive(Clone, Copy, PartialEq)]
 pub struct Values {
     pub number: u32,
     pub unknowns: u32,
@@ -63,21 +64,34 @@ pub fn arguments_of(c: Call) -> Arguments
     }
 }
 
-fn begun(
-    s: &[u8],
-    q: Arguments,
-    v: Values,
-    scratch: &mut [f64],
-    state: &mut [f64],
-    poses: &mut [f64],
-    frames: &mut [f64],
-    errors: &mut [f64],
-) -> Values {
-    let mut unknowns = v.unknowns;
-    let mut rows = v.rows;
-    let mut done = v.done;
-    let mut run = v.run;
-    let mut converged = v.converged;
+// The memory for an answer.
+#[derive(Clone, Copy)]
+pub struct Outputs {
+    pub state: [f64; 256],
+    pub poses: [f64; 256],
+    pub frames: [f64; 256],
+    pub errors: [f64; 256],
+}
+
+// What of the scratch and of that memory is lent.
+#[derive(Drop)]
+struct Lent<'a> {
+    scratch: &'a mut [f64],
+    state: &'a mut [f64],
+    poses: &'a mut [f64],
+    frames: &'a mut [f64],
+    errors: &'a mut [f64],
+}
+
+fn begun(s: &[u8], q: Arguments, v: Values, lent: Lent) -> Values {
+    let Lent {
+        scratch,
+        state,
+        poses,
+        frames,
+        errors,
+    } = lent;
+    let mut w = v;
     let number = sheet_solve_begin(
         s,
         q.drag,
@@ -86,40 +100,29 @@ fn begun(
         q.limit,
         q.weight,
         q.portion,
-        &mut unknowns,
-        &mut rows,
-        &mut done,
-        &mut run,
+        &mut w.unknowns,
+        &mut w.rows,
+        &mut w.done,
+        &mut w.run,
         state,
         scratch,
         poses,
         frames,
         errors,
-        &mut converged,
+        &mut w.converged,
     );
-    Values {
-        number,
-        unknowns,
-        rows,
-        done,
-        run,
-        converged,
-    }
+    Values { number, ..w }
 }
 
-fn gone_on(
-    s: &[u8],
-    q: Arguments,
-    v: Values,
-    scratch: &mut [f64],
-    state: &mut [f64],
-    poses: &mut [f64],
-    frames: &mut [f64],
-    errors: &mut [f64],
-) -> Values {
-    let mut done = v.done;
-    let mut run = v.run;
-    let mut converged = v.converged;
+fn gone_on(s: &[u8], q: Arguments, v: Values, lent: Lent) -> Values {
+    let Lent {
+        scratch,
+        state,
+        poses,
+        frames,
+        errors,
+    } = lent;
+    let mut w = v;
     let number = sheet_solve_on(
         s,
         q.drag,
@@ -130,70 +133,45 @@ fn gone_on(
         q.portion,
         v.unknowns,
         v.rows,
-        &mut done,
-        &mut run,
+        &mut w.done,
+        &mut w.run,
         state,
         scratch,
         poses,
         frames,
         errors,
-        &mut converged,
+        &mut w.converged,
     );
-    Values {
-        number,
-        unknowns: v.unknowns,
-        rows: v.rows,
-        done,
-        run,
-        converged,
-    }
+    Values { number, ..w }
 }
 
-// The call that the list asks for, 0 for beginning.
-fn either(
-    s: &[u8],
-    which: u64,
-    q: Arguments,
-    v: Values,
-    scratch: &mut [f64],
-    state: &mut [f64],
-    poses: &mut [f64],
-    frames: &mut [f64],
-    errors: &mut [f64],
-) -> Values {
-    if which == 0 {
-        return begun(s, q, v, scratch, state, poses, frames, errors);
-    }
-    gone_on(s, q, v, scratch, state, poses, frames, errors)
-}
-
-// As many doubles are lent as the call says.
+// What the call that the list asks for gives, and the memory after it. The state is `doubles` before, and as many doubles are lent as the call says.
 pub fn solved(
     s: &[u8],
-    which: u64,
+    step: Step,
     q: Arguments,
     v: Values,
     l: Lengths,
     scratch: &mut [f64],
-    state: &mut [f64],
-    poses: &mut [f64],
-    frames: &mut [f64],
-    errors: &mut [f64],
-) -> Values {
+    doubles: [f64; 256],
+) -> (Values, Outputs) {
+    let mut outputs = Outputs {
+        state: doubles,
+        poses: [BEFORE; 256],
+        frames: [BEFORE; 256],
+        errors: [BEFORE; 256],
+    };
     let n = at_most(l.scratch, scratch.len());
-    let t = at_most(l.state, state.len());
-    let p = at_most(l.poses, poses.len());
-    let f = at_most(l.frames, frames.len());
-    let e = at_most(l.errors, errors.len());
-    either(
-        s,
-        which,
-        q,
-        v,
-        &mut scratch[0..n],
-        &mut state[0..t],
-        &mut poses[0..p],
-        &mut frames[0..f],
-        &mut errors[0..e],
-    )
+    let lent = Lent {
+        scratch: &mut scratch[..n],
+        state: &mut outputs.state[..at_most(l.state, 256)],
+        poses: &mut outputs.poses[..at_most(l.poses, 256)],
+        frames: &mut outputs.frames[..at_most(l.frames, 256)],
+        errors: &mut outputs.errors[..at_most(l.errors, 256)],
+    };
+    let values = match step {
+        Step::Begin => begun(s, q, v, lent),
+        Step::On => gone_on(s, q, v, lent),
+    };
+    (values, outputs)
 }

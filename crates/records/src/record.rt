@@ -1,8 +1,6 @@
 // Bodies and relations read in place, as specs/Record.antt lays them out.
 
-ghost use Rattle.std.specs.Prelude.{◌≡◌, ℕ, ◌+◌, ◌≤◌, ◌<◌, length, get_or};
-ghost use Rattle.std.specs.Float.{binary64};
-ghost use Rattle.std.specs.Float.Ieee.{of_bits};
+ghost use Rattle.std.specs.Prelude.{◌≡◌, ◌+◌, ◌≤◌, length};
 ghost use Rattle.vectors.specs.Vec.{vec};
 ghost use Rattle.vectors.specs.Space.{frame};
 ghost use Rattle.relations.specs.Geometry.{prim};
@@ -10,61 +8,51 @@ ghost use Rattle.relations.specs.Model.{body_number, end_of, law_of, rel_of, bod
 ghost use Rattle.records.specs.Record as spec;
 
 use relations::geometry::Primitive;
-use relations::model::{Body, BodyRef, End, JointKind, Law, Rel};
+use relations::model::{Body, End, JointKind, Law, Rel};
+use std::num::f64_from_bits_with_nan;
 use vectors::space::Frame;
 use vectors::vec::Vec3;
 
-fn wide(x: u8) -> u64
-    ensures { (result ≡ x) × (result < 256) }
-{
-    x as u64
-}
+// The ground's number as a body.
+const GROUND: u16 = 0xFFFF;
 
-pub fn u16_at(s: &[u8], o: usize) -> u64
+pub fn u16_at(s: &[u8], o: usize) -> u16
     requires { o + 2 ≤ length s.now }
-    ensures { (result ≡ spec.u16_at s.now o) × (result < 0x1_0000) }
+    ensures { result ≡ spec.u16_at s.now o }
 {
-    wide(s[o]) + wide(s[o + 1]) * 0x100
+    u16::from_le_bytes([s[o], s[o + 1]])
 }
 
-pub fn u32_at(s: &[u8], o: usize) -> u64
+pub fn u32_at(s: &[u8], o: usize) -> u32
     requires { o + 4 ≤ length s.now }
-    ensures { (result ≡ spec.u32_at s.now o) × (result < 0x1_0000_0000) }
+    ensures { result ≡ spec.u32_at s.now o }
 {
-    wide(s[o]) + wide(s[o + 1]) * 0x100 + wide(s[o + 2]) * 0x1_0000 + wide(s[o + 3]) * 0x100_0000
-}
-
-// The number of the first eight bytes, by halves, so that it compiles to one load.
-fn first_u64(s: &[u8]) -> u64
-    requires { 8 ≤ length s.now }
-    ensures { result ≡ spec.u64_at s.now 0 }
-{
-    u32_at(s, 0) + u32_at(s, 4) * 0x1_0000_0000
+    u32::from_le_bytes([s[o], s[o + 1], s[o + 2], s[o + 3]])
 }
 
 pub fn u64_at(s: &[u8], o: usize) -> u64
     requires { o + 8 ≤ length s.now }
     ensures { result ≡ spec.u64_at s.now o }
 {
-    first_u64(&s[o..])
+    u64::from_le_bytes([
+        s[o],
+        s[o + 1],
+        s[o + 2],
+        s[o + 3],
+        s[o + 4],
+        s[o + 5],
+        s[o + 6],
+        s[o + 7],
+    ])
 }
 
-// The double that a bit pattern stands for. Every NaN pattern is the one NaN.
-fn double_of(n: u64) -> f64
-    ensures { result ≡ of_bits binary64 n }
-{
-    if n % 0x8000_0000_0000_0000 > 0x7FF0_0000_0000_0000 {
-        0.0 / 0.0
-    } else {
-        f64::from_bits(n)
-    }
-}
-
+// Every NaN pattern is the one NaN.
+#[tactic(auto, unfolding(crate::specs::Record::double_at))]
 pub fn double_at(s: &[u8], o: usize) -> f64
     requires { o + 8 ≤ length s.now }
     ensures { result ≡ spec.double_at s.now o }
 {
-    double_of(u64_at(s, o))
+    f64_from_bits_with_nan(u64_at(s, o))
 }
 
 pub fn vec_at(s: &[u8], o: usize) -> Vec3
@@ -90,6 +78,7 @@ fn frame_at(s: &[u8], o: usize) -> Frame
     }
 }
 
+#[tactic(auto, unfolding(crate::specs::Record::body_at))]
 pub fn body_at(s: &[u8], o: usize) -> Body
     requires { o + 136 ≤ length s.now }
     ensures { body_of result ≡ spec.body_at s.now o }
@@ -102,6 +91,7 @@ pub fn body_at(s: &[u8], o: usize) -> Body
     }
 }
 
+#[tactic(auto, unfolding(crate::specs::Record::prim_at, crate::specs::Numbers::by_number))]
 fn prim_of(kind: u8, p: Vec3, d: Vec3, r: f64) -> Primitive
     ensures { prim result ≡ spec.prim_at kind (vec p) (vec d) r }
 {
@@ -120,23 +110,21 @@ fn prim_of(kind: u8, p: Vec3, d: Vec3, r: f64) -> Primitive
     }
 }
 
-fn body_ref(b: u64) -> BodyRef
-    requires { b < 0x1_0000 }
+// The number of a body, none for the ground.
+#[tactic(auto, unfolding(crate::specs::Record::body_number_at, crate::specs::Numbers::by_number))]
+fn body_number(b: u16) -> Option<usize>
     ensures { body_number result ≡ spec.body_number_at b }
 {
-    if b == 0xFFFF {
-        BodyRef::Ground
-    } else {
-        BodyRef::Of(b as usize)
-    }
+    (b != GROUND).then_some(b as usize)
 }
 
+#[tactic(auto, unfolding(crate::specs::Record::end_at))]
 fn end_at(s: &[u8], e: usize) -> End
     requires { e + 72 ≤ length s.now }
     ensures { end_of result ≡ spec.end_at s.now e }
 {
     End {
-        body: body_ref(u16_at(s, e + 2)),
+        body: body_number(u16_at(s, e + 2)),
         prim: prim_of(
             s[e],
             vec_at(s, e + 8),
@@ -148,6 +136,7 @@ fn end_at(s: &[u8], e: usize) -> End
     }
 }
 
+#[tactic(auto, unfolding(crate::specs::Record::joint_kind_at, crate::specs::Numbers::by_number))]
 fn joint_kind_of(kind: u8) -> JointKind
     ensures { result ≡ spec.joint_kind_at kind }
 {
@@ -161,19 +150,12 @@ fn joint_kind_of(kind: u8) -> JointKind
     }
 }
 
-fn teeth_at(s: &[u8], o: usize) -> u16
-    requires { o + 2 ≤ length s.now }
-    ensures { result ≡ spec.u16_at s.now o }
-{
-    u16_at(s, o) as u16
-}
-
+#[tactic(auto, unfolding(crate::specs::Record::law_by, crate::specs::Numbers::by_number))]
 fn law_at(s: &[u8], r: usize) -> Law
     requires { r + 264 ≤ length s.now }
     ensures { law_of result ≡ spec.law_by (spec.byte_at s.now r) s.now r }
 {
-    let law = s[r];
-    match law {
+    match s[r] {
         0 => Law::Mate {
             offset: double_at(s, r + 8),
         },
@@ -202,14 +184,15 @@ fn law_at(s: &[u8], r: usize) -> Law
             angle: double_at(s, r + 16),
         },
         _ => Law::Gear {
-            teeth_a: teeth_at(s, r + 4),
-            teeth_b: teeth_at(s, r + 6),
+            teeth_a: u16_at(s, r + 4),
+            teeth_b: u16_at(s, r + 6),
             angle: double_at(s, r + 16),
             carrier: end_at(s, r + 192),
         },
     }
 }
 
+#[tactic(auto, unfolding(crate::specs::Record::rel_at))]
 pub fn rel_at(s: &[u8], r: usize) -> Rel
     requires { r + 264 ≤ length s.now }
     ensures { rel_of result ≡ spec.rel_at s.now r }

@@ -8,12 +8,14 @@ ghost use Rattle.refusals.specs.Refusals as spec;
 
 use least_squares::triangle::places;
 use records::record::u16_at;
-use scene::scene::{Scene, scene_of};
+use scene::scene::{Scene, Sheet, scene_of};
 
-// The sheet's bodies and relations, the layout of unknowns and the row count.
-pub fn scene_in(s: &[u8]) -> Scene
+// The sheet with its bodies and relations, the layout of unknowns and the row count.
+#[tactic(auto, using(format::proofs::RefusalLaws::sheet_passes, crate::proofs::FigureLaws::counted))]
+pub fn scene_in(s: &[u8]) -> Sheet<'_>
     requires { faults.sheet_fault s.now ≡ 0 }
-    ensures { SceneMade s.now 24 (bodies_of s.now) (24 + 136 * bodies_of s.now) (relations_of s.now) result }
+    ensures bytes { result.bytes.now ≡ s.now }
+    ensures made { SceneMade s.now 24 (bodies_of s.now) (24 + 136 * bodies_of s.now) (relations_of s.now) result.scene }
 {
     let m = u16_at(s, 2) as usize;
     let k = u16_at(s, 4) as usize;
@@ -21,43 +23,38 @@ pub fn scene_in(s: &[u8]) -> Scene
 }
 
 // What both figures are: the squares are R²+R(R+1)/2 for `solve` and 2n² for `dof`.
-fn figure(rows: usize, n: usize, m: usize, squares: usize) -> usize
-    requires rows_bound { (rows ≤ 896) × (n ≤ 384) }
-    requires m_bound { (m ≤ 64) × (squares ≤ 1605632) }
-    requires n_bound { rows * n ≤ 344064 }
-    ensures { result ≡ rows * n + squares + 8 * rows + 8 * n + 32 * m }
+fn figure(c: Scene, squares: usize) -> usize
+    requires rows_bound { (c.rows ≤ 896) × (c.n ≤ 384) }
+    requires m_bound { (c.m ≤ 64) × (squares ≤ 1605632) }
+    requires n_bound { c.rows * c.n ≤ 344064 }
+    ensures { result ≡ c.rows * c.n + squares + 8 * c.rows + 8 * c.n + 32 * c.m }
 {
-    rows * n + squares + 8 * rows + 8 * n + 32 * m
+    c.rows * c.n + squares + 8 * c.rows + 8 * c.n + 32 * c.m
 }
 
+#[tactic(auto, using(crate::proofs::FigureLaws::few, crate::proofs::FigureLaws::row_count, crate::proofs::FigureLaws::unknown_count), unfolding(least_squares::specs::Triangle::triangle))]
 pub fn solve_scratch(s: &[u8]) -> usize
     requires { faults.sheet_fault s.now ≡ 0 }
     ensures { result ≡ spec.solve_scratch s.now }
 {
-    let c = scene_in(s);
-    let rows = c.rows;
-    let n = c.n;
-    let m = c.m;
-    figure(rows, n, m, rows * rows + places(rows))
+    let c = scene_in(s).scene;
+    figure(c, c.rows * c.rows + places(c.rows))
 }
 
+#[tactic(auto, using(crate::proofs::FigureLaws::few, crate::proofs::FigureLaws::row_count, crate::proofs::FigureLaws::unknown_count))]
 pub fn dof_scratch(s: &[u8]) -> usize
     requires { faults.sheet_fault s.now ≡ 0 }
     ensures { result ≡ spec.dof_scratch s.now }
 {
-    let c = scene_in(s);
-    let rows = c.rows;
-    let n = c.n;
-    let m = c.m;
-    figure(rows, n, m, 2 * (n * n))
+    let c = scene_in(s).scene;
+    figure(c, 2 * (c.n * c.n))
 }
 
+#[tactic(auto, using(crate::proofs::FigureLaws::few, crate::proofs::FigureLaws::row_count, crate::proofs::FigureLaws::unknown_count))]
 pub fn state_length(s: &[u8]) -> usize
     requires { faults.sheet_fault s.now ≡ 0 }
     ensures { result ≡ spec.state_length s.now }
 {
-    let c = scene_in(s);
-    let rows = c.rows;
-    let n = c.n;
-    1 + 2 * n + rows
+    let c = scene_in(s).scene;
+    1 + 2 * c.n + c.rows
 }

@@ -1,78 +1,63 @@
 // The tests of solving by rounds: test 16, and a state that is short. specs/Refusals.antt has the definitions, specs/Parts.antt those of their parts.
 
-ghost use Rattle.std.specs.Prelude.{◌≡◌};
+ghost use Rattle.std.specs.Prelude.{◌≡◌, true};
+ghost use Rattle.faults.specs.Fault.{number_of};
 ghost use Rattle.scene.specs.Scene.{parameters_of};
 ghost use Rattle.format.specs.Faults as faults;
 ghost use Rattle.refusals.specs.Parts as parts;
 ghost use Rattle.refusals.specs.Refusals as spec;
 
 use crate::figures::{scene_in, state_length};
-use crate::lent::{call_fault, lent_fault};
+use crate::lent::{Lengths, call_fault, lent_fault};
+use faults::fault::Fault;
 use scene::parameters::Parameters;
 
-// Whether the counts of unknowns and rows are the sheet's.
-fn counts_fit(sheet: &[u8], unknowns: u32, rows: u32) -> bool
+// Test 16 of a call that goes on: the counts of unknowns and rows are the sheet's.
+fn counts_fault(sheet: &[u8], unknowns: u32, rows: u32) -> Result<(), Fault>
     requires { faults.sheet_fault sheet.now ≡ 0 }
-    ensures { result ≡ spec.counts_fit sheet.now unknowns rows }
+    ensures { number_of result ≡ faults.unless (spec.counts_fit sheet.now unknowns rows) 16 }
 {
-    let c = scene_in(sheet);
-    let r = c.rows;
-    let n = c.n;
-    (unknowns as usize) == n && (rows as usize) == r
+    let c = scene_in(sheet).scene;
+    if unknowns as usize == c.n && rows as usize == c.rows {
+        Ok(())
+    } else {
+        Err(Fault::Portion)
+    }
 }
 
-// The tests from 16 on.
-#[tactic(auto, using(crate::proofs::PortionLaws::portion_none, crate::proofs::PortionLaws::portion_over))]
-fn portion_fault(
-    sheet: &[u8],
-    portion: u32,
-    counted: bool,
-    state: usize,
-    scratch: usize,
-    poses: usize,
-    frames: usize,
-    errors: usize,
-) -> u32
+// The tests from 16 on, for counts that are the sheet's.
+#[tactic(auto, unfolding(crate::specs::Parts::portion_fault))]
+fn portion_fault(sheet: &[u8], portion: u32, state: usize, lent: Lengths) -> Result<(), Fault>
     requires { faults.sheet_fault sheet.now ≡ 0 }
-    ensures { result ≡ parts.portion_fault sheet.now portion counted state scratch poses frames errors }
+    ensures { number_of result ≡ parts.portion_fault sheet.now portion true state lent.scratch lent.poses lent.frames lent.errors }
 {
-    if portion < 1 {
-        return 16;
-    }
-    if portion > 1000 {
-        return 16;
-    }
-    if !counted {
-        return 16;
+    if !(1..=1000).contains(&portion) {
+        return Err(Fault::Portion);
     }
     if state < state_length(sheet) {
-        return 10;
+        return Err(Fault::Room);
     }
-    lent_fault(sheet, scratch, poses, frames, errors)
+    lent_fault(sheet, lent)
 }
 
 // The tests of a call that begins, in their order.
+#[tactic(auto, using(crate::proofs::LentLaws::call_sheet, crate::proofs::PortionLaws::rounds_parts, format::proofs::RefusalLaws::or_else_fault))]
 pub fn begin_fault(
     sheet: &[u8],
     q: Parameters,
     drag: u16,
     portion: u32,
     state: usize,
-    scratch: usize,
-    poses: usize,
-    frames: usize,
-    errors: usize,
-) -> u32
-    ensures { result ≡ spec.begin_fault sheet.now (parameters_of q) drag portion state scratch poses frames errors }
+    lent: Lengths,
+) -> Result<(), Fault>
+    ensures { number_of result ≡ spec.begin_fault sheet.now (parameters_of q) drag portion state lent.scratch lent.poses lent.frames lent.errors }
 {
-    let fault = call_fault(sheet, q, drag);
-    if fault != 0 {
-        return fault;
-    }
-    portion_fault(sheet, portion, true, state, scratch, poses, frames, errors)
+    call_fault(sheet, q, drag)?;
+    portion_fault(sheet, portion, state, lent)
 }
 
 // The tests of a call that goes on, in their order.
+#[tactic(auto, using(crate::proofs::LentLaws::call_sheet, crate::proofs::PortionLaws::counted_parts, format::proofs::RefusalLaws::or_else_fault))]
 pub fn on_fault(
     sheet: &[u8],
     q: Parameters,
@@ -81,19 +66,11 @@ pub fn on_fault(
     unknowns: u32,
     rows: u32,
     state: usize,
-    scratch: usize,
-    poses: usize,
-    frames: usize,
-    errors: usize,
-) -> u32
-    ensures { result ≡ spec.on_fault sheet.now (parameters_of q) drag portion unknowns rows state scratch poses frames errors }
+    lent: Lengths,
+) -> Result<(), Fault>
+    ensures { number_of result ≡ spec.on_fault sheet.now (parameters_of q) drag portion unknowns rows state lent.scratch lent.poses lent.frames lent.errors }
 {
-    let fault = call_fault(sheet, q, drag);
-    if fault != 0 {
-        return fault;
-    }
-    let counted = counts_fit(sheet, unknowns, rows);
-    portion_fault(
-        sheet, portion, counted, state, scratch, poses, frames, errors,
-    )
+    call_fault(sheet, q, drag)?;
+    counts_fault(sheet, unknowns, rows)?;
+    portion_fault(sheet, portion, state, lent)
 }

@@ -1,6 +1,7 @@
 -- `Prim` of geometry.rs: the plane, line, point or circle that a relation works with. Document 01, "The train of files", item 4. Definitions only; what
 -- looks geometry up in a part is left out.
-use Rattle.std.specs.Prelude.{Bool, cond, Float}
+use Rattle.std.specs.Prelude.{Bool, cond, Float, Some, None}
+use Rattle.std.specs.Prelude.{Option as MaybeOf}
 use Rattle.std.proofs.Math.Option.{Option, none, some}
 use Rattle.numbers.specs.Ops.{Ops, doubles}
 use Rattle.vectors.specs.Vec.{Vec, vec, z_v, neg_v, add_v}
@@ -8,8 +9,7 @@ use Rattle.vectors.specs.Space.{Frame, world, from_normal}
 use Rattle.vectors.specs.Math.{Mat, apply}
 use Rattle.relations.specs.declared.geometry.Primitive.{Primitive}
 use Rattle.relations.specs.declared.geometry.Primitive.TheVariants.{Plane, Line, Point, Circle}
-use Rattle.relations.specs.declared.geometry.Direction.{Direction}
-use Rattle.relations.specs.declared.geometry.Direction.TheVariants.{Along, Nothing}
+use Rattle.vectors.specs.declared.vec.Vec3.{Vec3}
 
 -- a point and a normal; a point and a direction; a point; a centre, an axis and a radius
 pub data Geo (C : Type 0) : Type 0 where
@@ -56,9 +56,9 @@ point_of (point p) = p
 point_of (circle c n r) = c
 
 -- what `direction` answers: a direction or none
-abbrev pub direction : Direction → Option (Vec Float)
-direction (Along d) = some (vec d)
-direction Nothing = none
+abbrev pub direction : MaybeOf Vec3 → Option (Vec Float)
+direction (Some d) = some (vec d)
+direction None = none
 
 -- the normal, direction or axis; a point has none
 unfoldable pub direction_of : Geo Float → Option (Vec Float)

@@ -1,14 +1,13 @@
 -- What the solver works on: `Body`, `Law`, `End` and `Rel` of solve.rs, with `JointKind` of model.rs. Document 01, "The train of files", item 6; document 02, 1/14, for
 -- the gear, which the Rust has not. Definitions only.
-use Rattle.std.specs.Prelude.{ℕ, Bool, Float}
+use Rattle.std.specs.Prelude.{ℕ, Bool, Float, Some, None}
+use Rattle.std.specs.Prelude.{Option as MaybeOf}
 use Rattle.std.proofs.Math.Option.{Option, none, some}
 use Rattle.vectors.specs.Vec.{Vec, vec}
 use Rattle.vectors.specs.Space.{Frame, frame}
 use Rattle.vectors.specs.Math.{mat, of_frame}
 use Rattle.relations.specs.Geometry.{Geo, prim, Pose}
 use Rattle.relations.specs.declared.model.JointKind.{JointKind}
-use Rattle.relations.specs.declared.model.BodyRef.{BodyRef}
-use Rattle.relations.specs.declared.model.BodyRef.TheVariants.{Ground, Of}
 use Rattle.relations.specs.declared.model.End.{End as EndStruct}
 use Rattle.relations.specs.declared.model.Law.{Law as LawEnum}
 use Rattle.relations.specs.declared.model.Law.TheVariants.{Mate, Flush, Angle, Insert, Tangent, Symmetry, Joint, Gear}
@@ -47,9 +46,9 @@ pub record Rel : Type 0 where
 
 -- ---- the numbers of the structs and enums of the code
 
-abbrev pub body_number : BodyRef → Option ℕ
-body_number Ground = none
-body_number (Of i) = some i
+abbrev pub body_number : MaybeOf ℕ → Option ℕ
+body_number (Some i) = some i
+body_number None = none
 
 abbrev pub end_of : EndStruct → End
 end_of e = record { body = body_number e.body; prim = prim e.prim; radius = e.radius; mirrored = e.mirrored }

@@ -1,14 +1,13 @@
 -- The rows of every law and pair: `residual` of solve.rs, with `tangent_gap`, `perp`, `wrap`, `turn`, `mate_prim` and `joint_frame`. Document 01, "The train of
 -- files", item 6, and "The words of demand 3"; document 02, 1/14, for the gear's row, which the Rust has not. What rows of mate, flush, insert, symmetry and a tangent
 -- with a plane are made of is written once over the record of operations, for doubles and for fractions. Definitions only.
-use Rattle.std.specs.Prelude.{ℕ, Bool, true, false, ◌||◌, cond, ltb, length, take, get_or, Float}
+use Rattle.std.specs.Prelude.{ℕ, Bool, true, false, ◌||◌, cond, length, take, get_or, Float}
 use mathlib.Core.List.{List, [], ◌∷◌}
 use Rattle.std.proofs.Math.Option.{Option, none, some}
 use Rattle.std.specs.Float.{binary64}
 use Rattle.std.specs.Float.Ieee.{add, sub, mul, neg, le, of_bits}
 use Rattle.numbers.specs.Ops.{Ops, doubles}
 use Rattle.numbers.specs.Double.{zero64, one64, of_whole, abs, rem_euclid}
-use Rattle.numbers.specs.MaxAbs.{max_abs_step}
 use Rattle.arcs.specs.Arcs.{arctangent}
 use Rattle.vectors.specs.Vec.{Vec, vec, zero_v, add_v, sub_v, scale_v, dot, cross, len}
 use Rattle.vectors.specs.Math.{apply, identity, PI}
@@ -26,25 +25,11 @@ use Rattle.relations.specs.declared.model.JointKind.TheVariants.{Rigid, Revolute
 
 -- the first n of seven
 unfoldable pub rows_of : Rows → List Float
-rows_of r = take r.n (r.r0 ∷ r.r1 ∷ r.r2 ∷ r.r3 ∷ r.r4 ∷ r.r5 ∷ r.r6 ∷ [])
+rows_of r = take r.n r.values
 
 -- at most seven rows, +0 after them
 unfoldable pub pack : List Float → Rows
-pack l =
-    record {
-      n = length l;
-      r0 = get_or l 0 zero64;
-      r1 = get_or l 1 zero64;
-      r2 = get_or l 2 zero64;
-      r3 = get_or l 3 zero64;
-      r4 = get_or l 4 zero64;
-      r5 = get_or l 5 zero64;
-      r6 = get_or l 6 zero64;
-    }
-
--- `max_abs_step` for row k of n; m where there is no such row
-unfoldable pub step_below : ℕ → ℕ → Float → Float → Float
-step_below n k m a = cond (ltb k n) (max_abs_step m a) m
+pack l = record { n = length l; values = get_or l 0 zero64 ∷ get_or l 1 zero64 ∷ get_or l 2 zero64 ∷ get_or l 3 zero64 ∷ get_or l 4 zero64 ∷ get_or l 5 zero64 ∷ get_or l 6 zero64 ∷ [] }
 
 -- ---- what rows are made of
 

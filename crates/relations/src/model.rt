@@ -6,7 +6,7 @@ ghost use Rattle.vectors.specs.Space.{frame};
 ghost use Rattle.relations.specs.Geometry as geometry;
 ghost use Rattle.relations.specs.Model as spec;
 
-use crate::geometry::Primitive;
+use crate::geometry::{Primitive, place};
 use vectors::math::M3;
 use vectors::space::Frame;
 use vectors::vec::Vec3;
@@ -31,17 +31,10 @@ pub struct Body {
     pub size: f64,
 }
 
-// What an end belongs to.
-#[derive(Clone, Copy)]
-pub enum BodyRef {
-    Ground,
-    Of(usize),
-}
-
-// One side of a relation, its geometry in its body's coordinates.
+// One side of a relation: the number of its body, none for the ground, and its geometry in the body's coordinates.
 #[derive(Clone, Copy)]
 pub struct End {
-    pub body: BodyRef,
+    pub body: Option<usize>,
     pub prim: Primitive,
     pub radius: f64,
     pub mirrored: bool,
@@ -110,10 +103,9 @@ impl Pose {
     pub fn of(f: Frame) -> Pose
         ensures { spec.pose result ≡ spec.pose_of_frame (frame f) }
     {
-        let t = f.origin;
         Pose {
             r: M3::of_frame(f),
-            t,
+            t: f.origin,
         }
     }
 
@@ -121,9 +113,7 @@ impl Pose {
     pub fn place(self, p: Vec3) -> Vec3
         ensures { vec result ≡ geometry.place doubles (spec.pose self) (vec p) }
     {
-        let r = self.r;
-        let t = self.t;
-        r.apply(p).add(t)
+        place(self.r, self.t, p)
     }
 }
 
@@ -132,9 +122,6 @@ impl End {
     pub fn placed(self, q: Pose) -> Primitive
         ensures { geometry.prim result ≡ geometry.placed doubles (spec.pose q) (spec.end_of self).prim }
     {
-        let p = self.prim;
-        let r = q.r;
-        let t = q.t;
-        p.placed(r, t)
+        self.prim.placed(q.r, q.t)
     }
 }

@@ -5,13 +5,18 @@ ghost use Rattle.writing.specs.Bytes.{Put};
 ghost use Rattle.report.specs.Report as spec;
 
 use numbers::bits;
+use writing::bytes::put_bytes;
 
 // The digit of a number below 16: 0 to 9, then A to F.
 fn glyph(d: u64) -> u8
     requires { d < 16 }
     ensures { result ≡ spec.glyph d }
 {
-    if d < 10 { 48 + d as u8 } else { 55 + d as u8 }
+    if d < 10 {
+        b'0' + d as u8
+    } else {
+        b'A' - 10 + d as u8
+    }
 }
 
 // How many decimal digits n has.
@@ -34,10 +39,8 @@ fn put_digits(out: &mut [u8], at: usize, n: u64, base: u64, k: usize) -> usize
     requires k_in_bounds { at + k ≤ length out.old }
     ensures { Put out.old out.new at result (spec.digits base k n) }
 {
-    let mut i = k;
     let mut rest = n;
-    while i > 0 {
-        i -= 1;
+    for i in (0..k).rev() {
         out[at + i] = glyph(rest % base);
         rest /= base;
     }
@@ -61,30 +64,19 @@ fn put_bits(out: &mut [u8], at: usize, x: f64) -> usize
     put_digits(out, at, n, 16, 16)
 }
 
-fn put_word(out: &mut [u8], at: usize, word: &[u8]) -> usize
-    requires { at + length word.now ≤ length out.old }
-    ensures { Put out.old out.new at result word.now }
-{
-    let mut i = 0usize;
-    while i < word.len() {
-        out[at + i] = word[i];
-        i += 1;
-    }
-    at + i
-}
-
 // The digit of a body's count of slides or turns.
+#[tactic(auto, unfolding(crate::specs::Report::count_digit))]
 fn count_digit(x: f64) -> u8
     ensures { result ≡ spec.count_digit x }
 {
     if x == 0.0 {
-        48
+        b'0'
     } else if x == 1.0 {
-        49
+        b'1'
     } else if x == 2.0 {
-        50
+        b'2'
     } else {
-        51
+        b'3'
     }
 }
 
@@ -93,9 +85,9 @@ fn put_converged(out: &mut [u8], at: usize, converged: bool) -> usize
     ensures { Put out.old out.new at result (spec.converged_line converged) }
 {
     if converged {
-        put_word(out, at, b"converged 1\n")
+        put_bytes(out, at, b"converged 1\n")
     } else {
-        put_word(out, at, b"converged 0\n")
+        put_bytes(out, at, b"converged 0\n")
     }
 }
 
@@ -105,9 +97,9 @@ fn put_number(out: &mut [u8], at: usize, word: &[u8], n: usize) -> usize
     requires word_in_bounds { at + (length word.now + 6) ≤ length out.old }
     ensures { Put out.old out.new at result (spec.number_line word.now n) }
 {
-    let a = put_word(out, at, word);
+    let a = put_bytes(out, at, word);
     let b = put_decimal(out, a, n);
-    put_word(out, b, b"\n")
+    put_bytes(out, b, b"\n")
 }
 
 // The line of relation j, whose error is x.
@@ -116,11 +108,11 @@ fn put_relation(out: &mut [u8], at: usize, j: usize, x: f64) -> usize
     requires at_in_bounds { at + 32 ≤ length out.old }
     ensures { Put out.old out.new at result (spec.relation_line j x) }
 {
-    let a = put_word(out, at, b"relation ");
+    let a = put_bytes(out, at, b"relation ");
     let b = put_decimal(out, a, j);
-    let c = put_word(out, b, b" ");
+    let c = put_bytes(out, b, b" ");
     let d = put_bits(out, c, x);
-    put_word(out, d, b"\n")
+    put_bytes(out, d, b"\n")
 }
 
 // The line of body i, with its counts.
@@ -130,9 +122,9 @@ fn put_body(out: &mut [u8], at: usize, i: usize, slides: f64, turns: f64) -> usi
     ensures { Put out.old out.new at result (spec.body_line i slides turns) }
 {
     let counts = [b' ', count_digit(slides), b' ', count_digit(turns), b'\n'];
-    let a = put_word(out, at, b"body ");
+    let a = put_bytes(out, at, b"body ");
     let b = put_decimal(out, a, i);
-    put_word(out, b, &counts)
+    put_bytes(out, b, &counts)
 }
 
 fn put_relations(out: &mut [u8], at: usize, errors: &[f64], k: usize) -> usize

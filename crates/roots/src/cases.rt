@@ -4,12 +4,8 @@ ghost use Rattle.std.specs.Prelude.{◌≡◌, ◌*◌, ◌^◌, ◌<◌};
 ghost use Rattle.roots.specs.Cases as spec;
 
 use crate::second::second_root;
+use numbers::{FIELD, SIGN};
 use std::num::wrapping_add_u64;
-
-// weights in a double's bits: the exponent's field, the sign
-const FIELD: u64 = 0x10_0000_0000_0000;
-
-const SIGN: u64 = 0x8000_0000_0000_0000;
 
 // half the digits of a significand: 2^26
 const HALF: u64 = 0x400_0000;
@@ -24,6 +20,7 @@ pub struct Tally {
 
 impl Tally {
     // A step of Marsaglia's generator with the shifts 13, 7 and 17.
+    #[tactic(auto, unfolding(crate::specs::Cases::seed_after))]
     fn next(self) -> Tally
         ensures { result ≡ spec.next self }
     {
@@ -31,8 +28,7 @@ impl Tally {
         let b = a ^ (a >> 7);
         Tally {
             seed: b ^ (b << 17),
-            compared: self.compared,
-            different: self.different,
+            ..self
         }
     }
 
@@ -40,18 +36,19 @@ impl Tally {
         ensures { result ≡ spec.count self same }
     {
         Tally {
-            seed: self.seed,
             compared: wrapping_add_u64(self.compared, 1),
             different: if same {
                 self.different
             } else {
                 wrapping_add_u64(self.different, 1)
             },
+            ..self
         }
     }
 }
 
 // One number with one sign, or two NaNs.
+#[tactic(auto, unfolding(crate::specs::Cases::same))]
 fn same(a: f64, b: f64) -> bool
     ensures { result ≡ spec.same a b }
 {
@@ -83,6 +80,7 @@ fn compare_bits(t: Tally, b: u64) -> Tally
 }
 
 // The bits b and their neighbours.
+#[tactic(auto, unfolding(crate::specs::Cases::compare_around))]
 fn compare_around(t: Tally, b: u64) -> Tally
     ensures { result ≡ spec.compare_around t b }
 {
@@ -99,6 +97,7 @@ fn put(field: u64, digits: u64) -> u64
 }
 
 // The ends and the middle of an exponent's range.
+#[tactic(auto, unfolding(crate::specs::Cases::ends))]
 fn ends(t: Tally, field: u64) -> Tally
     ensures { result ≡ spec.ends t field }
 {
@@ -107,6 +106,7 @@ fn ends(t: Tally, field: u64) -> Tally
     compare_around(t, put(field, FIELD - 2))
 }
 
+#[tactic(auto, unfolding(crate::specs::Cases::one_random))]
 fn one_random(field: u64, t: Tally) -> Tally
     ensures { result ≡ spec.one_random field t }
 {
@@ -135,6 +135,7 @@ pub fn exponents(mut t: Tally) -> Tally
     t
 }
 
+#[tactic(auto, unfolding(crate::specs::Cases::one_subnormal))]
 fn one_subnormal(k: u64, t: Tally) -> Tally
     requires { k < 4096 }
     ensures { result ≡ spec.one_subnormal k t }
@@ -164,6 +165,7 @@ fn product(a: u64, b: u64) -> u64
 }
 
 // A square of a whole number c of 26 digits, times a power of 4, and its neighbours. c * c has 51 or 52 digits.
+#[tactic(auto, unfolding(crate::specs::Cases::one_square))]
 fn one_square(t: Tally, c: u64, field: u64) -> Tally
     ensures { result ≡ spec.one_square t c field }
 {
@@ -187,6 +189,7 @@ pub fn squares(mut t: Tally) -> Tally
 }
 
 // c * c by halves of c's 52 digits: its last 52 digits, and (c * c + more) / 2^52.
+#[tactic(auto, unfolding(crate::specs::Cases::square_low))]
 fn square_low(c: u64) -> u64
     ensures { (result ≡ spec.square_low c) × (result < 2 ^ 52) }
 {
@@ -195,6 +198,7 @@ fn square_low(c: u64) -> u64
     (product(a, b) * 2 % HALF * HALF + product(b, b)) % FIELD
 }
 
+#[tactic(auto, unfolding(crate::specs::Cases::square_high))]
 fn square_high(c: u64, more: u64) -> u64
     requires { more < 2 ^ 53 }
     ensures { (result ≡ spec.square_high c more) × (result < 2 ^ 53) }
@@ -206,6 +210,7 @@ fn square_high(c: u64, more: u64) -> u64
 }
 
 // c with the digit i, by which c * c + c + s has the digit 0 there.
+#[tactic(auto, unfolding(crate::specs::Cases::digit))]
 fn digit(s: u64, i: u64, c: u64) -> u64
     requires { i < 52 }
     ensures { result ≡ spec.digit s i c }
@@ -218,6 +223,7 @@ fn digit(s: u64, i: u64, c: u64) -> u64
 }
 
 // A c below 2^52 with c * c + c + s a multiple of 2^52, digit by digit from the last: for every even s there is one that is even and one that is odd.
+#[tactic(auto, unfolding(crate::specs::Cases::digits, crate::specs::Cases::lifted))]
 fn lifted(s: u64, last: u64) -> u64
     ensures { (result ≡ spec.lifted s last) × (result < 2 ^ 52) }
 {
@@ -230,6 +236,7 @@ fn lifted(s: u64, last: u64) -> u64
 
 // With q = 2^52 + c, the number q * q + q + s - less * 2^52 is m * 2^52, whose root is q + 1/2 and about (s - 1/4) / (2 * q): as near to halfway as a double's root
 // can be. From 2^53 up, m is a double's significand only if it is even.
+#[tactic(auto, unfolding(crate::specs::Cases::one_halfway))]
 fn one_halfway(t: Tally, s: u64, last: u64, less: u64) -> Tally
     ensures { result ≡ spec.one_halfway s last less t }
 {
@@ -244,6 +251,7 @@ fn one_halfway(t: Tally, s: u64, last: u64, less: u64) -> Tally
     }
 }
 
+#[tactic(auto, unfolding(crate::specs::Cases::four_halfways))]
 fn four_halfways(k: u64, t: Tally) -> Tally
     requires { k < 2048 }
     ensures { result ≡ spec.four_halfways k t }
@@ -276,6 +284,7 @@ pub fn randoms(mut t: Tally) -> Tally
 }
 
 // The zeros, the infinities, a NaN, the least and the largest doubles, and negative numbers.
+#[tactic(auto, unfolding(crate::specs::Cases::specials))]
 pub fn specials(t: Tally) -> Tally
     ensures { result ≡ spec.specials t }
 {

@@ -15,9 +15,9 @@ fn print(rt: &impl Print, name: &str, t: Tally) -> io::Result<Tally> {
         t.compared, t.different
     )?;
     Ok(Tally {
-        seed: t.seed,
         compared: 0,
         different: 0,
+        ..t
     })
 }
 

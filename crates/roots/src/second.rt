@@ -11,6 +11,7 @@ struct Scaled {
 }
 
 // A large a by w^2 smaller, a small a by w^2 larger.
+#[tactic(auto, unfolding(crate::specs::Second::lowered))]
 fn lowered(v: Scaled, w: f64) -> Scaled
     ensures { result ≡ spec.lowered v w }
 {
@@ -25,6 +26,7 @@ fn lowered(v: Scaled, w: f64) -> Scaled
     }
 }
 
+#[tactic(auto, unfolding(crate::specs::Second::raised))]
 fn raised(v: Scaled, w: f64) -> Scaled
     ensures { result ≡ spec.raised v w }
 {
@@ -49,6 +51,7 @@ const W64: f64 = 18446744073709551616.0;
 const W32: f64 = 4294967296.0;
 
 // x with a below 4
+#[tactic(auto, unfolding(crate::specs::Second::lowest))]
 fn lowest(x: f64) -> Scaled
     ensures { result ≡ spec.lowest x }
 {
@@ -61,6 +64,7 @@ fn lowest(x: f64) -> Scaled
 }
 
 // x with a from 1 up to 4
+#[tactic(auto, unfolding(crate::specs::Second::into_range))]
 fn into_range(x: f64) -> Scaled
     ensures { result ≡ spec.into_range x }
 {
@@ -86,6 +90,7 @@ fn heron(a: f64, r: f64) -> f64
 const STEP: f64 = 2.220446049250313e-16;
 
 // a less r * r, which is p + e exactly, each part of r having 26 digits.
+#[tactic(auto, unfolding(crate::specs::Second::left))]
 fn left(a: f64, r: f64) -> f64
     ensures { result ≡ spec.left a r }
 {
@@ -98,6 +103,7 @@ fn left(a: f64, r: f64) -> f64
 }
 
 // r or its neighbour, whichever is nearer to the root of a, for an r from 1 to 2.
+#[tactic(auto, unfolding(crate::specs::Second::corrected))]
 fn corrected(a: f64, r: f64) -> f64
     ensures { result ≡ spec.corrected a r }
 {
@@ -111,6 +117,7 @@ fn corrected(a: f64, r: f64) -> f64
     }
 }
 
+#[tactic(auto, unfolding(crate::specs::Second::above_zero))]
 fn above_zero(x: f64) -> f64
     ensures { result ≡ spec.above_zero x }
 {
@@ -120,6 +127,7 @@ fn above_zero(x: f64) -> f64
     corrected(a, corrected(a, r)) * v.s
 }
 
+#[tactic(auto, unfolding(crate::specs::Second::second_root))]
 pub fn second_root(x: f64) -> f64
     ensures { result ≡ spec.second_root x }
 {

@@ -54,6 +54,26 @@ arranged_as c p size e h = subst (λ (q : PartsStruct). Arranged c q size) (sym 
 pub arranged_same : {c : SceneStruct} {p : PartsStruct} {a b : ℕ} → b ≡ a → Arranged c p a → Arranged c p b
 arranged_same {c} {p} e h = subst (Arranged c p) (sym e) h
 
+-- in so many doubles as the parts need, or more
+pub arranged_within : {c : SceneStruct} {p : PartsStruct} {size : ℕ} → Arranged c p (p.poses + 12 * c.m) → p.poses + 12 * c.m ≤ size → Arranged c p size
+arranged_within a h =
+    record {
+      first = a.first;
+      x = a.x;
+      slopes = a.slopes;
+      matrix = a.matrix;
+      weights = a.weights;
+      damped = a.damped;
+      right = a.right;
+      rows = a.rows;
+      next = a.next;
+      ahead = a.ahead;
+      poses = h;
+      from_x = a.from_x;
+      from_slopes = a.from_slopes;
+      from_poses = a.from_poses;
+    }
+
 -- ---- trials, by the definitions
 
 worse_cond : (b : Bool) (t w : Tried) → t.better ≡ true → (cond b t w).better ≡ false → cond b t w ≡ w

@@ -1,2 +1,3 @@
 pub mod Parts
 pub mod Rounds
+pub mod Solver

@@ -1,10 +1,10 @@
 // Where the parts of the lent scratch stand, each from where the last ended. `specs/Parts.antt` says what each is for.
 
-ghost use Rattle.std.specs.Prelude.{◌≡◌, ◌≤◌};
-ghost use Rattle.rounds.specs.Parts.{solve_parts};
+ghost use Rattle.std.specs.Prelude.{◌≡◌, ◌+◌, ◌*◌, ◌≤◌};
+ghost use Rattle.rounds.specs.Parts.{solve_parts, Arranged};
 
 use least_squares::triangle::places;
-use scene::scene::Scene;
+use scene::scene::{Scene, Sheet};
 use slopes::anew_slopes::SlopeParts;
 
 // SolveParts of parts. `seen` has those that the filling of slopes is lent, as it finds them: from the unknowns at `x` on.
@@ -58,4 +58,12 @@ pub fn solve_parts(scene: Scene) -> SolveParts
         poses,
         seen,
     }
+}
+
+// What a run works on: a sheet, and the places of its parts in the lent scratch. They end behind the poses.
+#[derive(Clone, Copy)]
+pub struct Solver<'a> {
+    pub sheet: Sheet<'a>,
+    pub parts: SolveParts,
+    pub ghost arranged: { Arranged sheet.scene parts (parts.poses + 12 * sheet.scene.m) },
 }

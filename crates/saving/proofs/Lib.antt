@@ -1,5 +1,4 @@
 pub mod ReadingLaws
 pub mod PartsLaws
 pub mod SavingLaws
-pub mod FieldLaws
 pub mod SavedLaws

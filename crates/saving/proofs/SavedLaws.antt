@@ -9,33 +9,23 @@ use native.Mathlib.Numerals.{add-one}
 use native.Mathlib.Omega.{arith}
 use lib.ListN.{length, drop}
 use borrow.Author.Tests.{ne_eqb}
-use Rattle.relations.specs.Model.{Body, Rel}
+use Rattle.faults.specs.declared.fault.Fault.{Fault}
+use Rattle.faults.specs.Fault.{number}
+use Rattle.faults.proofs.FaultLaws.{number_nonzero}
 use Rattle.format.specs.Format.{rel_start}
 use Rattle.format.specs.Faults.{or_else}
-use Rattle.format.proofs.RefusalLaws.{none_of, first, later}
+use Rattle.format.proofs.RefusalLaws.{none_of, or_else_fault}
 use Rattle.writing.specs.Bytes.{Put}
-use Rattle.writing.specs.Writing.{BodyParts, RelParts, BodyIs, RelIs, BodyTested, RelTested, sheet_bytes, first_fault, counts_fault, records_fault, room_fault, scene_fault}
+use Rattle.writing.specs.Writing.{BodyIs, RelIs, sheet_bytes, first_fault, counts_fault, records_fault, room_fault, scene_fault}
 use Rattle.writing.proofs.SheetLaws.{counts_pass}
 use Rattle.writing.proofs.OneSheetLaws.{one_sheet}
-use Rattle.writing.proofs.LentLaws.{first_more, room_enough}
-use Rattle.saving.specs.Saving.{body_parts, end_numbers, rel_parts}
+use Rattle.writing.proofs.LentLaws.{first_in_row, room_enough}
+use Rattle.saving.specs.Saving.{body_parts, rel_parts}
 use Rattle.saving.specs.Saved.{body_in, rel_in, parts_of, BodySaved, RelSaved, BodiesSaved, RelsSaved, SceneSaved, SaveAnswer}
 use Rattle.saving.specs.declared.save.Scene.{Scene}
 use Rattle.saving.proofs.SavingLaws.{saved_once, six}
 
 -- ---- one record
-
-pub body_saved : (b : Body) (p : BodyParts) (r : ℕ) → p ≡ body_parts b → BodyTested p r → BodySaved b r
-unfolding body_parts
-body_saved b p r e t =
-    let q : BodyTested (body_parts b) r = rw e at t in
-    record { number = q.number; is = record { two = refl; sixteen = refl; bytes = q.bytes; numbers = q.numbers } }
-
-pub rel_saved : (m : ℕ) (rel : Rel) (p : RelParts) (r : ℕ) → p ≡ rel_parts rel → RelTested m p r → RelSaved m rel r
-unfolding rel_parts end_numbers
-rel_saved m rel p r e t =
-    let q : RelTested m (rel_parts rel) r = rw e at t in
-    record { number = q.number; is = record { nine = refl; five = refl; all = refl; bytes = q.bytes; words = q.words; numbers = q.numbers } }
 
 -- ---- one record more
 
@@ -44,10 +34,10 @@ below P n h z i l = ⊎_elim (λ (e : i ≡ n). rw e z) (λ (k : i < n). h i k) 
 
 module _ (sc : Scene) where
   pub bodies_more : (i f g w : ℕ) → BodiesSaved sc i f → BodySaved (body_in sc i) g → w ≡ or_else f g → BodiesSaved sc (i + 1) w
-  bodies_more i f g w p q e = record { number = first_more _ i f g w p.number q.number e; is = below (λ j. BodyIs (body_parts (body_in sc j))) i p.is q.is }
+  bodies_more i f g w p q e = record { number = rw (e, p.number, q.number, add-one i, (first_in_row _).more i); is = below (λ j. BodyIs (body_parts (body_in sc j))) i p.is q.is }
 
   pub rels_more : (j f g w : ℕ) → RelsSaved sc j f → RelSaved sc.m (rel_in sc j) g → w ≡ or_else f g → RelsSaved sc (j + 1) w
-  rels_more j f g w p q e = record { number = first_more _ j f g w p.number q.number e; is = below (λ i. RelIs (rel_parts (rel_in sc i))) j p.is q.is }
+  rels_more j f g w p q e = record { number = rw (e, p.number, q.number, add-one j, (first_in_row _).more j); is = below (λ i. RelIs (rel_parts (rel_in sc i))) j p.is q.is }
 
   pub no_bodies : BodiesSaved sc 0 0
   unfolding first_fault
@@ -59,26 +49,26 @@ module _ (sc : Scene) where
 
   -- ---- one test after another
 
-  pub records_then : (room c b r s f w : ℕ) → c ≡ counts_fault sc.m sc.k → c ≡ 0 → BodiesSaved sc sc.m b → RelsSaved sc sc.k r → s ≡ or_else b r
-      → f ≡ room_fault sc.m sc.k room → w ≡ or_else s f → SceneSaved sc room w
+  pub records_then : (room b r f w : ℕ) → 0 ≡ counts_fault sc.m sc.k → BodiesSaved sc sc.m b → RelsSaved sc sc.k r
+      → f ≡ room_fault sc.m sc.k room → w ≡ or_else (or_else b r) f → SceneSaved sc room w
   unfolding scene_fault records_fault
-  records_then room c b r s f w p z x y e q h =
-      let number : w ≡ scene_fault (parts_of sc) room =
-      later _ (counts_fault sc.m sc.k) _ c w refl p z (rw (h, e, x.number, y.number, q)) in
+  records_then room b r f w p x y q h =
+      let number : w ≡ scene_fault (parts_of sc) room = rw (h, x.number, y.number, q, ← p) in
       record {
         number = number;
         six = six sc.m sc.k (body_in sc) (rel_in sc) room w (λ n. y.is) number;
         once = λ n. saved_once sc.m sc.k (body_in sc) (rel_in sc) n (one_sheet (parts_of sc) (record { body = x.is; rel = y.is }) n);
       }
 
-  pub counts_stop : (room c : ℕ) → c ≡ counts_fault sc.m sc.k → (c ≡ 0 → ⊥) → SceneSaved sc room c
+  pub counts_stop : (room c : ℕ) (f : Fault) → c ≡ number f → number f ≡ counts_fault sc.m sc.k → SceneSaved sc room c
   unfolding scene_fault
-  counts_stop room c p ne =
-      let number : c ≡ scene_fault (parts_of sc) room = first _ (counts_fault sc.m sc.k) _ c refl p ne in
+  counts_stop room c f e p =
+      let number : c ≡ scene_fault (parts_of sc) room = rw (e, ← p) (sym (or_else_fault f _)) in
+      let ne : counts_fault sc.m sc.k ≡ 0 → ⊥ = λ z. number_nonzero f (p ∙ z) in
       record {
         number = number;
-        six = six sc.m sc.k (body_in sc) (rel_in sc) room c (λ n. absurd (ne (p ∙ n))) number;
-        once = λ n. absurd (ne (p ∙ n));
+        six = six sc.m sc.k (body_in sc) (rel_in sc) room c (λ n. absurd (ne n)) number;
+        once = λ n. absurd (ne n);
       }
 
   -- a scene that is accepted
@@ -87,31 +77,33 @@ module _ (sc : Scene) where
     pub relations : sc.k ≤ 128
     pub room_is : rel_start sc.m sc.k ≤ room
 
-  pub accepted : (room : ℕ) → scene_fault (parts_of sc) room ≡ 0 → Accepted room
+  pub accepted : (room : ℕ) → 0 ≡ scene_fault (parts_of sc) room → Accepted room
   unfolding scene_fault
   accepted room e =
-      let p = none_of (counts_fault sc.m sc.k) _ e in
+      let p = none_of (counts_fault sc.m sc.k) _ (sym e) in
       let q = none_of (records_fault (parts_of sc)) (room_fault sc.m sc.k room) p.1 in
       let n = counts_pass sc.m sc.k p.0 in
       record { bodies = n.0; relations = n.1; room_is = room_enough sc.m sc.k room q.1 }
 
   -- ---- the answer
 
-  pub written : (sheet sheet' : List ℕ) (n q : ℕ) → SceneSaved sc (length sheet) n → n ≡ 0 → q ≡ rel_start sc.m sc.k → Put sheet sheet' 0 q (sheet_bytes (parts_of sc))
+  pub written : (sheet sheet' : List ℕ) (q : ℕ) → SceneSaved sc (length sheet) 0 → q ≡ rel_start sc.m sc.k → Put sheet sheet' 0 q (sheet_bytes (parts_of sc))
       → SaveAnswer sc 0 sheet sheet'
-  written sheet sheet' n q p z e put =
+  written sheet sheet' q p e put =
       record {
-        number = sym z ∙ p.number;
-        six = rw z at p.six;
+        number = p.number;
+        six = p.six;
         sheet_is = put.text ∙ ap (λ (o : ℕ). sheet_bytes (parts_of sc) ++ drop o sheet) e;
         once = p.once;
       }
 
-  pub refused : (sheet : List ℕ) (n : ℕ) → SceneSaved sc (length sheet) n → (n ≡ 0 → ⊥) → SaveAnswer sc n sheet sheet
-  refused sheet n p ne =
+  pub refused : (sheet : List ℕ) (n : ℕ) (f : Fault) → n ≡ number f → SceneSaved sc (length sheet) (number f) → SaveAnswer sc n sheet sheet
+  refused sheet n f e p =
+      let ne : n ≡ 0 → ⊥ = λ z. number_nonzero f (sym e ∙ z) in
+      let q : SceneSaved sc (length sheet) n = rw e p in
       record {
-        number = p.number;
-        six = p.six;
+        number = q.number;
+        six = q.six;
         sheet_is = sym (ap (λ (t : Bool). cond t (sheet_bytes (parts_of sc) ++ drop (rel_start sc.m sc.k) sheet) sheet) (ne_eqb n 0 ne));
-        once = p.once;
+        once = q.once;
       }

@@ -3,7 +3,7 @@ use Rattle.std.specs.Prelude.{ℕ, ◌<◌, ◌≡◌, false, cond, List, ◌++�
 use Rattle.std.specs.Float.{nan}
 use Rattle.vectors.specs.declared.vec.Vec3.{Vec3}
 use Rattle.relations.specs.declared.geometry.Primitive.TheVariants.{Plane}
-use Rattle.relations.specs.declared.model.BodyRef.TheVariants.{Ground}
+use Rattle.std.specs.Prelude.{None}
 use Rattle.relations.specs.declared.model.End.{End as EndStruct}
 use Rattle.relations.specs.declared.model.Law.TheVariants.{Mate}
 use Rattle.relations.specs.declared.model.Body.{Body as BodyStruct}
@@ -23,7 +23,7 @@ abbrev pub no_body : BodyStruct
 no_body = record { frame = record { origin = no_vec; x = no_vec; y = no_vec; z = no_vec }; fixed = false; center = no_vec; size = nan }
 
 abbrev no_side : EndStruct
-no_side = record { body = Ground; prim = Plane no_vec no_vec; radius = nan; mirrored = false }
+no_side = record { body = None; prim = Plane no_vec no_vec; radius = nan; mirrored = false }
 
 abbrev pub no_rel : RelStruct
 no_rel = record { law = Mate nan; a = no_side; b = no_side }

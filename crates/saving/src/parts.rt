@@ -10,32 +10,25 @@ ghost use Rattle.saving.specs.Saving as spec;
 ghost use Rattle.saving.specs.Fields as fields;
 
 use relations::geometry::Primitive;
-use relations::model::{Body, BodyRef, End, JointKind, Law, Rel};
+use relations::model::{Body, End, JointKind, Law, Rel};
+use vectors::space::Frame;
 use vectors::vec::Vec3;
 
 // The largest word that is not the ground's.
 const NO_BODY: usize = 0xFFFE;
 
-fn flag(b: bool) -> u8
-    ensures { result ≡ flag_number b }
-{
-    if b { 1 } else { 0 }
-}
-
+#[tactic(auto, unfolding(crate::specs::Saving::body_parts))]
 pub fn body_bytes(b: Body) -> [u8; 2]
     ensures { result ≡ (spec.body_parts (body_of b)).bytes }
 {
-    [flag(b.fixed), 0]
+    [u8::from(b.fixed), 0]
 }
 
+#[tactic(auto, unfolding(crate::specs::Saving::body_parts))]
 pub fn body_numbers(b: Body) -> [f64; 16]
     ensures { result ≡ (spec.body_parts (body_of b)).numbers }
 {
-    let f = b.frame;
-    let o = f.origin;
-    let x = f.x;
-    let y = f.y;
-    let z = f.z;
+    let Frame { origin: o, x, y, z } = b.frame;
     let c = b.center;
     [
         o.x, o.y, o.z, x.x, x.y, x.z, y.x, y.y, y.z, z.x, z.y, z.z, c.x, c.y, c.z, b.size,
@@ -43,17 +36,13 @@ pub fn body_numbers(b: Body) -> [f64; 16]
 }
 
 // A number that a word does not hold, or that is the ground's, names no body.
-fn body_word(b: BodyRef) -> u16
+fn body_word(b: Option<usize>) -> u16
     ensures { result ≡ spec.body_word (body_number b) }
 {
     match b {
-        BodyRef::Ground => 0xFFFF,
-        BodyRef::Of(i) => {
-            if i < NO_BODY {
-                return i as u16;
-            }
-            0xFFFE
-        }
+        None => 0xFFFF,
+        Some(i) if i < NO_BODY => i as u16,
+        Some(_) => 0xFFFE,
     }
 }
 
@@ -66,6 +55,7 @@ pub struct PrimFields {
     pub radius: f64,
 }
 
+#[tactic(auto, unfolding(relations::specs::Geometry::point_of))]
 fn prim_fields(p: Primitive) -> PrimFields
     ensures { fields.PrimFieldsOf (prim p) result }
 {
@@ -104,15 +94,14 @@ fn prim_fields(p: Primitive) -> PrimFields
 fn prim_number(p: Primitive) -> u8
     ensures { result ≡ prim_number (prim p) }
 {
-    let f = prim_fields(p);
-    f.number
+    prim_fields(p).number
 }
 
+#[tactic(auto, unfolding(crate::specs::Saving::end_numbers))]
 fn end_numbers(e: End) -> [f64; 8]
     ensures { result ≡ spec.end_numbers (end_of e) }
 {
-    let g = e.prim;
-    let f = prim_fields(g);
+    let f = prim_fields(e.prim);
     let p = f.point;
     let d = f.direction;
     [p.x, p.y, p.z, d.x, d.y, d.z, f.radius, e.radius]
@@ -133,7 +122,7 @@ fn joint_number(kind: JointKind) -> u8
 
 // The end whose 72 bytes are 0.
 const NO_END: End = End {
-    body: BodyRef::Of(0),
+    body: Some(0),
     prim: Primitive::Plane {
         point: Vec3::ZERO,
         normal: Vec3::ZERO,
@@ -179,15 +168,10 @@ fn third_fields(number: u8, first: u16, second: u16, angle: f64, third: End) -> 
     ensures { fields.FieldsAre number 0 0 first second zero64 angle zero_v (end_of third) result }
 {
     LawFields {
-        number,
-        joint: 0,
-        flag: 0,
         first,
         second,
-        offset: 0.0,
-        angle,
-        reference: Vec3::ZERO,
         third,
+        ..plain_fields(number, 0, 0, 0.0, angle)
     }
 }
 
@@ -196,15 +180,8 @@ fn angle_fields(angle: f64, reference: Vec3) -> LawFields
     ensures { fields.FieldsAre 2 0 0 0 0 zero64 angle (vec reference) spec.no_end result }
 {
     LawFields {
-        number: 2,
-        joint: 0,
-        flag: 0,
-        first: 0,
-        second: 0,
-        offset: 0.0,
-        angle,
         reference,
-        third: NO_END,
+        ..plain_fields(2, 0, 0, 0.0, angle)
     }
 }
 
@@ -215,15 +192,15 @@ fn law_fields(law: Law) -> LawFields
         Law::Mate { offset } => plain_fields(0, 0, 0, offset, 0.0),
         Law::Flush { offset } => plain_fields(1, 0, 0, offset, 0.0),
         Law::Angle { angle, reference } => angle_fields(angle, reference),
-        Law::Insert { offset, aligned } => plain_fields(3, 0, flag(aligned), offset, 0.0),
-        Law::Tangent { offset, inside } => plain_fields(4, 0, flag(inside), offset, 0.0),
+        Law::Insert { offset, aligned } => plain_fields(3, 0, u8::from(aligned), offset, 0.0),
+        Law::Tangent { offset, inside } => plain_fields(4, 0, u8::from(inside), offset, 0.0),
         Law::Symmetry { plane } => third_fields(5, 0, 0, 0.0, plane),
         Law::Joint {
             joint,
             flip,
             offset,
             angle,
-        } => plain_fields(6, joint_number(joint), flag(flip), offset, angle),
+        } => plain_fields(6, joint_number(joint), u8::from(flip), offset, angle),
         Law::Gear {
             teeth_a,
             teeth_b,
@@ -233,62 +210,47 @@ fn law_fields(law: Law) -> LawFields
     }
 }
 
+#[tactic(auto, unfolding(crate::specs::Saving::rel_parts))]
 pub fn rel_bytes(r: Rel) -> [u8; 9]
     ensures { result ≡ (spec.rel_parts (rel_of r)).bytes }
 {
-    let law = r.law;
-    let f = law_fields(law);
-    let a = r.a;
-    let b = r.b;
-    let third = f.third;
-    let on_a = a.prim;
-    let on_b = b.prim;
-    let on_third = third.prim;
+    let f = law_fields(r.law);
     [
         f.number,
         f.joint,
         f.flag,
-        prim_number(on_a),
-        flag(a.mirrored),
-        prim_number(on_b),
-        flag(b.mirrored),
-        prim_number(on_third),
-        flag(third.mirrored),
+        prim_number(r.a.prim),
+        u8::from(r.a.mirrored),
+        prim_number(r.b.prim),
+        u8::from(r.b.mirrored),
+        prim_number(f.third.prim),
+        u8::from(f.third.mirrored),
     ]
 }
 
+#[tactic(auto, unfolding(crate::specs::Saving::rel_parts))]
 pub fn rel_words(r: Rel) -> [u16; 5]
     ensures { result ≡ (spec.rel_parts (rel_of r)).words }
 {
-    let law = r.law;
-    let f = law_fields(law);
-    let a = r.a;
-    let b = r.b;
-    let third = f.third;
-    let of_a = a.body;
-    let of_b = b.body;
-    let of_third = third.body;
+    let f = law_fields(r.law);
     [
         f.first,
         f.second,
-        body_word(of_a),
-        body_word(of_b),
-        body_word(of_third),
+        body_word(r.a.body),
+        body_word(r.b.body),
+        body_word(f.third.body),
     ]
 }
 
+#[tactic(auto, unfolding(crate::specs::Saving::rel_parts, crate::specs::Saving::end_numbers))]
 pub fn rel_numbers(r: Rel) -> [f64; 29]
     ensures { result ≡ (spec.rel_parts (rel_of r)).numbers }
 {
-    let law = r.law;
-    let f = law_fields(law);
+    let f = law_fields(r.law);
     let v = f.reference;
-    let on_a = r.a;
-    let on_b = r.b;
-    let third = f.third;
-    let a = end_numbers(on_a);
-    let b = end_numbers(on_b);
-    let c = end_numbers(third);
+    let a = end_numbers(r.a);
+    let b = end_numbers(r.b);
+    let c = end_numbers(f.third);
     [
         f.offset, f.angle, v.x, v.y, v.z, a[0], a[1], a[2], a[3], a[4], a[5], a[6], a[7], b[0],
         b[1], b[2], b[3], b[4], b[5], b[6], b[7], c[0], c[1], c[2], c[3], c[4], c[5], c[6], c[7],

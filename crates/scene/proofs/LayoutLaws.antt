@@ -2,25 +2,26 @@
 use mathlib.Core.Path.{◌≡◌, refl, sym, ap, subst, ◌∙◌}
 use mathlib.Core.Logic.{inl, inr}
 use mathlib.Core.Bool.{Bool, true, false, ◌||◌}
-use mathlib.Core.List.{List, ◌∷◌, ◌++◌}
-use mathlib.Core.Option.{Option, none}
+use mathlib.Core.List.{List, [], ◌∷◌, ◌++◌}
+use mathlib.Core.Option.{Option, none, some}
 use Prim.Native.Nat.{ℕ, suc, ◌+◌, ◌*◌, ◌≤◌, ◌<◌}
 use native.Mathlib.Omega.{arith}
 use native.Mathlib.Numerals.{add-one}
 use native.Mathlib.Nat.{not-suc-le-zero, le_of_suc-le-suc, eq-or-lt_of_le}
-use borrow.Author.Tests.{ne_eqb}
 use lib.ListN.{length, get_or, set, drop, replicate, length-replicate, get_or-replicate, length-set, length-append}
 use lib.Seq.{drop-drop, get_or-drop, get_or-set_same, get_or-set_other}
 use lib.Ieee.{Float}
+use Rattle.std.specs.Prelude.{Option as Entry, None, Some}
 use Rattle.relations.specs.Geometry.{Pose}
 use Rattle.relations.specs.Model.{Body, Rel}
 use Rattle.least_squares.specs.Lm.{list_of}
 use Rattle.records.specs.Record.{body_at, rel_at}
 use Rattle.scene.specs.Scene.{scene_in}
 use Rattle.judging.specs.Count.{row_count}
-use Rattle.judging.proofs.CountLaws.{residual_length}
-use Rattle.scene.specs.Solve.{names, named, moves, layout_from, unknowns_in, rows_at, all_rows}
-use Rattle.scene.specs.Scene.{first_unknown, rels_in, place_body, LaidOut, SceneMade}
+use Rattle.judging.proofs.CountLaws.{residual_length, row_count_le}
+use Rattle.scene.specs.Solve.{Scene, names, named, moves, layout_from, unknowns_in, unknowns, end_pose, third_body, rows_at, all_rows}
+use Rattle.scene.specs.Scene.{first_unknown, scene_of, rels_in, place_body, Laid, LaidOut, SceneMade}
+use Rattle.scene.specs.declared.scene.Scene.{Scene as SceneStruct}
 use Rattle.scene.specs.declared.scene.Unknowns.{Unknowns as UnknownsStruct}
 use Rattle.least_squares.proofs.TableLaws.{length_list_of}
 use Rattle.scene.proofs.SceneLaws.{list_of_next, drop_whole, next_layout, length_layout}
@@ -53,18 +54,18 @@ pub record Laying (rels : List Rel) (bodies : List Body) (l : UnknownsStruct) (i
   pub size : length l.index ≡ 64
   pub rest : drop i (layout_from rels 0 0 bodies) ≡ layout_from rels i l.n (drop i bodies)
   pub count : unknowns_in (layout_from rels 0 0 bodies) ≡ l.n + unknowns_in (drop i (layout_from rels 0 0 bodies))
-  pub placed : (q : ℕ) → q < i → get_or (layout_from rels 0 0 bodies) q none ≡ first_unknown (get_or l.index q 0)
-  pub free : (q : ℕ) → i ≤ q → q < 64 → get_or l.index q 0 ≡ 0xFFFF
+  pub placed : (q : ℕ) → q < i → get_or (layout_from rels 0 0 bodies) q none ≡ first_unknown (get_or l.index q None)
+  pub free : (q : ℕ) → i ≤ q → q < 64 → get_or l.index q None ≡ None
 
-pub laying_start : (rels : List Rel) (bodies : List Body) → Laying rels bodies (record { n = 0; index = replicate 64 0xFFFF }) 0
+pub laying_start : (rels : List Rel) (bodies : List Body) → Laying rels bodies (record { n = 0; index = replicate 64 None }) 0
 laying_start rels bodies =
     record {
       small = omega arith;
-      size = length-replicate {A = ℕ} 64 0xFFFF;
+      size = length-replicate {A = Entry ℕ} 64 None;
       rest = refl;
       count = omega arith;
       placed = λ q h. absurd (not-suc-le-zero h);
-      free = λ q h l. get_or-replicate {A = ℕ} 64 q 0xFFFF 0 l;
+      free = λ q h l. get_or-replicate {A = Entry ℕ} 64 q None None l;
     }
 
 module _ (rels : List Rel) (bodies : List Body) (l : UnknownsStruct) (i : ℕ) (b : Body) (i-in : i < 64) (here : drop i bodies ≡ b ∷ drop (suc i) bodies) (g : Laying rels bodies l i) where
@@ -90,8 +91,8 @@ module _ (rels : List Rel) (bodies : List Body) (l : UnknownsStruct) (i : ℕ) (
         | inr k ↦ f q k
       ]
 
-  laying_moved : moves rels i b ≡ true → Laying rels bodies (record { n = l.n + 6; index = set l.index i l.n }) (i + 1)
-  unfolding first_unknown unknowns_in
+  laying_moved : moves rels i b ≡ true → Laying rels bodies (record { n = l.n + 6; index = set l.index i (Some l.n) }) (i + 1)
+  unfolding unknowns_in
   laying_moved e =
       let d = from_here true e in
       let t = tail_is _ _ d in
@@ -102,18 +103,18 @@ module _ (rels : List Rel) (bodies : List Body) (l : UnknownsStruct) (i : ℕ) (
       let m = g.small in
       record {
         small = omega arith;
-        size = length-set l.index i l.n ∙ g.size;
+        size = length-set l.index i (Some l.n) ∙ g.size;
         rest = subst (λ (w : ℕ). drop (i + 1) (layout_from rels 0 0 bodies) ≡ layout_from rels w (l.n + 6) (drop w bodies)) (sym (add-one i)) t;
         count = omega arith;
         placed =
-            one_more {A = λ q. get_or (layout_from rels 0 0 bodies) q none ≡ first_unknown (get_or (set l.index i l.n) q 0)}
-            (λ q k. g.placed q k ∙ ap first_unknown (sym (get_or-set_other l.index i q l.n 0 (λ x. absurd (omega arith)))))
-            (head_is _ _ d ∙ sym (rw (ne_eqb l.n 0xFFFF (λ x. absurd (omega arith)))) ∙ ap first_unknown (sym (get_or-set_same l.index i l.n 0 (omega arith))));
-        free = λ q k w. get_or-set_other l.index i q l.n 0 (λ x. absurd (omega arith)) ∙ g.free q (omega arith) w;
+            one_more {A = λ q. get_or (layout_from rels 0 0 bodies) q none ≡ first_unknown (get_or (set l.index i (Some l.n)) q None)}
+            (λ q k. g.placed q k ∙ ap first_unknown (sym (get_or-set_other l.index i q (Some l.n) None (λ x. absurd (omega arith)))))
+            (head_is _ _ d ∙ ap first_unknown (sym (get_or-set_same l.index i (Some l.n) None (omega arith))));
+        free = λ q k w. get_or-set_other l.index i q (Some l.n) None (λ x. absurd (omega arith)) ∙ g.free q (omega arith) w;
       }
 
   laying_stays : moves rels i b ≡ false → Laying rels bodies l (i + 1)
-  unfolding first_unknown unknowns_in
+  unfolding unknowns_in
   laying_stays e =
       let d = from_here false e in
       let t = tail_is _ _ d in
@@ -127,7 +128,7 @@ module _ (rels : List Rel) (bodies : List Body) (l : UnknownsStruct) (i : ℕ) (
         rest = subst (λ (w : ℕ). drop (i + 1) (layout_from rels 0 0 bodies) ≡ layout_from rels w l.n (drop w bodies)) (sym (add-one i)) t;
         count = omega arith;
         placed =
-            one_more {A = λ q. get_or (layout_from rels 0 0 bodies) q none ≡ first_unknown (get_or l.index q 0)} g.placed
+            one_more {A = λ q. get_or (layout_from rels 0 0 bodies) q none ≡ first_unknown (get_or l.index q None)} g.placed
             (head_is _ _ d ∙ ap first_unknown (sym (g.free i (omega arith) i-in)));
         free = λ q k w. g.free q (omega arith) w;
       }
@@ -168,6 +169,47 @@ count_end sheet rels k j rows e g poses =
     let a = g poses in
     let b = ap (λ (l : List Rel). length (all_rows poses l)) (drop_whole (rels_in sheet rels k) j (length_list_of (λ j. rel_at sheet (rels + 264 * j)) k ∙ sym e)) in
     omega arith
+
+-- six unknowns to a body at the most
+layout_more : (t : Bool) (next k : ℕ) (a b : List (Option ℕ)) → unknowns_in a ≤ 6 * k → unknowns_in b ≤ 6 * k → unknowns_in (elim t [ true ↦ some next ∷ a | false ↦ none ∷ b ]) ≤ 6 * suc k
+unfolding unknowns_in
+layout_more true next k a b h l = omega arith
+layout_more false next k a b h l = omega arith
+
+layout_le : (rels : List Rel) (i next : ℕ) (bodies : List Body) → unknowns_in (layout_from rels i next bodies) ≤ 6 * length bodies
+unfolding layout_from unknowns_in
+layout_le rels i next [] = omega arith
+layout_le rels i next (b ∷ bodies) =
+    layout_more (moves rels i b) next (length bodies) _ _ (layout_le rels (suc i) (next + 6) bodies) (layout_le rels (suc i) next bodies)
+
+pub unknowns_le : (sc : Scene) → unknowns sc ≤ 6 * length sc.bodies
+unknowns_le sc = layout_le sc.rels 0 0 sc.bodies
+
+-- seven rows to a relation at the most
+rel_rows_le : (poses : List (Pose Float)) (rel : Rel) → length (rows_at poses rel) ≤ 7
+rel_rows_le poses rel =
+    rw (residual_length rel.law rel.a rel.b (end_pose poses rel.a.body) (end_pose poses rel.b.body) (end_pose poses (third_body rel.law))) (row_count_le rel.law rel.a.prim rel.b.prim)
+
+rows_more : (a b : List Float) (k : ℕ) → length a ≤ 7 → length b ≤ 7 * k → length (a ++ b) ≤ 7 * suc k
+rows_more a b k h l = simp length-append (omega arith)
+
+pub rows_le : (poses : List (Pose Float)) (rels : List Rel) → length (all_rows poses rels) ≤ 7 * length rels
+unfolding all_rows
+rows_le poses [] = omega arith
+rows_le poses (rel ∷ rels) = rows_more (rows_at poses rel) _ (length rels) (rel_rows_le poses rel) (rows_le poses rels)
+
+-- a scene's counts are small
+pub scene_small : (sheet : List ℕ) (c : SceneStruct) → Laid sheet c → (c.rows ≤ 896) × (c.n ≤ 384)
+unfolding scene_in
+scene_small sheet c laid =
+    let sc = scene_of sheet c in
+    let r = rows_le [] sc.rels in
+    let e = laid.row_count [] in
+    let u = unknowns_le sc in
+    let b = length_list_of (λ i. body_at sheet (c.bodies + 136 * i)) c.m in
+    let d = length_list_of (λ j. rel_at sheet (c.rels + 264 * j)) c.k in
+    let n = laid.unknown_count in
+    (omega arith, omega arith)
 
 pub scene_made : (sheet : List ℕ) (bodies m rels k : ℕ) (l : UnknownsStruct) (rows : ℕ) → m ≤ 64 → k ≤ 128 → bodies + 136 * m ≤ length sheet → rels + 264 * k ≤ length sheet
     → LaidOut sheet bodies m rels k l → ((poses : List (Pose Float)) → length (all_rows poses (rels_in sheet rels k)) ≡ rows)

@@ -1,3 +1,4 @@
 pub mod SceneLaws
 pub mod LayoutLaws
 pub mod RowCountLaws
+pub mod PutLaws

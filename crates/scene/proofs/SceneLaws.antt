@@ -7,13 +7,14 @@ use mathlib.Core.Option.{Option, none, some}
 use Prim.Native.Nat.{ℕ, zero, suc, ◌+◌, ◌-◌, ◌*◌, ◌≤◌, ◌<◌}
 use native.Mathlib.Omega.{arith}
 use native.Mathlib.Numerals.{add-one}
-use borrow.Author.Tests.{eq-eqb, ne_eqb}
 use native.Mathlib.Nat.{not-suc-le-zero, le_of_suc-le-suc}
-use lib.ListN.{length, get_or, set, take, drop, length-set, length-drop, length-append, get_or-append, get_or-eq_default}
+use lib.ListN.{length, get_or, set, take, drop, replicate, length-set, length-drop, length-append, get_or-append, get_or-eq_default}
 use lib.Seq.{take-add, take_all, drop-drop, drop-cons, drop-length, take-suc, take-suc-set, get_or-append-add, get_or-set_same, get_or-set_other, set_out, ext_get_or}
 use lib.Ieee.{Float, nan}
+use Rattle.std.proofs.lemmas.List.{length-replicate, get_or-replicate}
 use Rattle.relations.specs.Geometry.{Pose}
 use Rattle.relations.specs.Model.{Body, Rel}
+use Rattle.std.specs.Prelude.{None, Some}
 use Rattle.numbers.specs.Double.{zero64}
 use Rattle.relations.specs.Rows as Rows
 use Rattle.relations.specs.Rows.{ground_pose, pack}
@@ -27,6 +28,7 @@ use Rattle.scene.specs.Solve.{moves, layout_from, layout, unknowns_in, poses_fro
 use Rattle.scene.specs.Scene.{first_unknown, scene_of, Laid, body_pose, rel_rows, weights_of, inverse_at, pose_doubles, poses_doubles, pose_in, poses_in, Put, PutNext, RowsAt}
 use Rattle.scene.specs.declared.scene.Scene.{Scene as SceneStruct}
 use Rattle.least_squares.proofs.MemoryLaws.{part_length, part_at, kept_refl, kept_set, kept_wider, kept_trans, kept_part_below, kept_at_below, kept_at_above}
+use Rattle.least_squares.proofs.LmLaws.{list_ext}
 use Rattle.least_squares.proofs.TableLaws.{length_list_of, get_d_list_of}
 
 -- ---- one list after another
@@ -145,10 +147,9 @@ layout_bound rels i next (b ∷ bodies) (suc j) k e = go (moves rels i b) e (λ 
 -- ---- a scene's bodies
 
 -- the unknowns of a body that has some
-pub laid_first : (sheet : List ℕ) (c : SceneStruct) (i k : ℕ) → Laid sheet c → i < c.m → get_or c.index i 0 ≡ k → (k ≡ 0xFFFF → ⊥) → k + 6 ≤ c.n
-unfolding first_unknown
-laid_first sheet c i k laid h e n =
-    let f : get_or (layout (scene_of sheet c)) i none ≡ some k = laid.index i h ∙ ap first_unknown e ∙ rw (ne_eqb k 0xFFFF n) in
+pub laid_first : (sheet : List ℕ) (c : SceneStruct) (i k : ℕ) → Laid sheet c → i < c.m → get_or c.index i None ≡ Some k → k + 6 ≤ c.n
+laid_first sheet c i k laid h e =
+    let f : get_or (layout (scene_of sheet c)) i none ≡ some k = laid.index i h ∙ ap first_unknown e in
     let b = layout_bound (scene_of sheet c).rels 0 0 (scene_of sheet c).bodies i k f in
     let u = laid.unknown_count in
     omega arith
@@ -167,7 +168,7 @@ unfolding scene_in
 bodies_next sheet c i h = list_of_next (λ i. body_at sheet (c.bodies + 136 * i)) c.m i h
 
 pub layout_next : (sheet : List ℕ) (c : SceneStruct) (i : ℕ) → Laid sheet c → i < c.m
-    → drop i (layout (scene_of sheet c)) ≡ first_unknown (get_or c.index i 0) ∷ drop (suc i) (layout (scene_of sheet c))
+    → drop i (layout (scene_of sheet c)) ≡ first_unknown (get_or c.index i None) ∷ drop (suc i) (layout (scene_of sheet c))
 layout_next sheet c i laid h =
     let l : i < length (layout (scene_of sheet c)) = rw (laid_length sheet c) h in
     drop-cons (layout (scene_of sheet c)) i none l ∙ ap (λ (k : Option ℕ). k ∷ drop (suc i) (layout (scene_of sheet c))) (laid.index i h)
@@ -367,7 +368,7 @@ pub weights_next : (sheet : List ℕ) (c : SceneStruct) (weight : Float) (drag :
     → rest_weights sheet c weight drag i ≡ inverse_at sheet c weight drag i ++ rest_weights sheet c weight drag (suc i)
 weights_next sheet c weight drag i laid h =
     (λ z. map inverse_weight (weights_from weight drag i (bodies_next sheet c i h z) (layout_next sheet c i laid h z)))
-    ∙ weights_cons weight drag i (body_at sheet (c.bodies + 136 * i)) (drop (suc i) (scene_of sheet c).bodies) (first_unknown (get_or c.index i 0)) (drop (suc i) (layout (scene_of sheet c)))
+    ∙ weights_cons weight drag i (body_at sheet (c.bodies + 136 * i)) (drop (suc i) (scene_of sheet c).bodies) (first_unknown (get_or c.index i None)) (drop (suc i) (layout (scene_of sheet c)))
 
 pub weights_done : (sheet : List ℕ) (c : SceneStruct) (weight : Float) (drag : Option ℕ) (i : ℕ) → i ≡ c.m → rest_weights sheet c weight drag i ≡ []
 unfolding weights_from
@@ -386,14 +387,12 @@ pub weights_length : (sheet : List ℕ) (c : SceneStruct) (weight : Float) (drag
 weights_length sheet c weight drag laid =
     length_weights weight drag 0 (scene_of sheet c).bodies (layout (scene_of sheet c)) (length_layout (scene_of sheet c).rels 0 0 (scene_of sheet c).bodies) ∙ sym laid.unknown_count
 
-pub no_weights : (sheet : List ℕ) (c : SceneStruct) (weight : Float) (drag : Option ℕ) (i : ℕ) → get_or c.index i 0 ≡ 0xFFFF → inverse_at sheet c weight drag i ≡ []
-unfolding first_unknown
-no_weights sheet c weight drag i e = rw (eq-eqb _ _ e)
+pub no_weights : (sheet : List ℕ) (c : SceneStruct) (weight : Float) (drag : Option ℕ) (i : ℕ) → get_or c.index i None ≡ None → inverse_at sheet c weight drag i ≡ []
+no_weights sheet c weight drag i e = rw e
 
-pub some_weights : (sheet : List ℕ) (c : SceneStruct) (weight : Float) (drag : Option ℕ) (i : ℕ) → (get_or c.index i 0 ≡ 0xFFFF → ⊥)
+pub some_weights : (sheet : List ℕ) (c : SceneStruct) (weight : Float) (drag : Option ℕ) (i k : ℕ) → get_or c.index i None ≡ Some k
     → inverse_at sheet c weight drag i ≡ map inverse_weight (body_weights (drag_factor weight drag i) (half_size (body_at sheet (c.bodies + 136 * i)).size))
-unfolding first_unknown
-some_weights sheet c weight drag i e = rw (ne_eqb _ _ e)
+some_weights sheet c weight drag i k e = rw e
 
 pub put_nothing : (s : List Float) (o : ℕ) (l : List Float) → l ≡ [] → PutNext s s o o (length l) l
 put_nothing s o l e =
@@ -474,11 +473,9 @@ six_are s t o a a' b b' e f y =
 
 -- ---- zeros
 
-pub put_zero : (s t : List Float) (o i : ℕ) → o + i < length t → Put s t o i (list_of (λ i. zero64) i) → Put s (set t (o + i) zero64) o (i + 1) (list_of (λ i. zero64) (i + 1))
-unfolding list_of
-put_zero s t o i h y =
-    subst (λ (w : List Float). Put s (set t (o + i) zero64) o (i + 1) w) (ap (list_of (λ i. zero64)) (sym (add-one i)))
-    (put_then s t (set t (o + i) zero64) o i (o + i) 1 (list_of (λ i. zero64) i) (zero64 ∷ []) refl y (put_one t (o + i) zero64 h))
+pub zeros_are : (n k : ℕ) → n ≡ k → replicate n zero64 ≡ list_of (λ i. zero64) k
+zeros_are n k e =
+    list_ext (λ i. zero64) k (replicate n zero64) (length-replicate n zero64 ∙ e) (λ i h. get_or-replicate n i zero64 nan (omega arith))
 
 -- ---- one pose put anew
 

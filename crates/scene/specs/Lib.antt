@@ -1,2 +1,3 @@
 pub mod Solve
 pub mod Scene
+pub mod Sheet

@@ -1,6 +1,7 @@
 -- The scene as the code hands it on, and what the functions over the lent scratch promise. Document 01, "Recut for Rattle": a scene record passed by value, read in
 -- place from a sheet's bytes. s is the scratch at entry and t at exit. Definitions only.
-use Rattle.std.specs.Prelude.{ℕ, ◌+◌, ◌-◌, ◌*◌, ◌≤◌, ◌<◌, ◌≡◌, Bool, cond, List, [], ◌∷◌, ◌++◌, map, length, get_or, set, take, eqb, Float}
+use Rattle.std.specs.Prelude.{Option as Entry, None, Some}
+use Rattle.std.specs.Prelude.{ℕ, ◌+◌, ◌-◌, ◌*◌, ◌≤◌, ◌<◌, ◌≡◌, Bool, cond, List, [], ◌∷◌, ◌++◌, map, length, get_or, set, take, Float}
 use Rattle.std.proofs.Math.Option.{Option, none, some}
 use Rattle.std.specs.Float.{nan}
 use Rattle.vectors.specs.Vec.{Vec}
@@ -16,9 +17,10 @@ use Rattle.scene.specs.declared.parameters.Parameters.{Parameters as ParametersS
 
 -- ---- the scene
 
--- an entry of `index`: 65535 stands for a body that has no unknowns
-unfoldable pub first_unknown : ℕ → Option ℕ
-first_unknown k = cond (eqb k 0xFFFF) none (some k)
+-- an entry of `index`, read: a body that has no unknowns has none
+abbrev pub first_unknown : Entry ℕ → Option ℕ
+first_unknown None = none
+first_unknown (Some k) = some k
 
 -- m bodies from the place `bodies` on, and k relations from the place `rels` on
 unfoldable pub scene_in : List ℕ → ℕ → ℕ → ℕ → ℕ → Scene
@@ -37,11 +39,11 @@ pub record Laid (sheet : List ℕ) (c : SceneStruct) : Type 0 where
   pub rels_fit : c.rels + 264 * c.k ≤ length sheet
   pub unknown_count : c.n ≡ unknowns (scene_of sheet c)
   pub row_count : (poses : List (Pose Float)) → length (all_rows poses (scene_of sheet c).rels) ≡ c.rows
-  pub index : (i : ℕ) → i < c.m → get_or (layout (scene_of sheet c)) i none ≡ first_unknown (get_or c.index i 0)
+  pub index : (i : ℕ) → i < c.m → get_or (layout (scene_of sheet c)) i none ≡ first_unknown (get_or c.index i None)
 
 -- the pose of body i at the unknowns xs
 abbrev pub body_pose : List ℕ → SceneStruct → List Float → ℕ → Pose Float
-body_pose sheet c xs i = pose_at xs (body_at sheet (c.bodies + 136 * i)) (first_unknown (get_or c.index i 0))
+body_pose sheet c xs i = pose_at xs (body_at sheet (c.bodies + 136 * i)) (first_unknown (get_or c.index i None))
 
 -- the rows of relation j at these poses
 abbrev pub rel_rows : List ℕ → SceneStruct → List (Pose Float) → ℕ → List Float
@@ -54,7 +56,7 @@ weights_of weight drag i b (some k) = body_weights (drag_factor weight drag i) (
 
 -- 1 over each weight of body i
 abbrev pub inverse_at : List ℕ → SceneStruct → Float → Option ℕ → ℕ → List Float
-inverse_at sheet c weight drag i = map inverse_weight (weights_of weight drag i (body_at sheet (c.bodies + 136 * i)) (first_unknown (get_or c.index i 0)))
+inverse_at sheet c weight drag i = map inverse_weight (weights_of weight drag i (body_at sheet (c.bodies + 136 * i)) (first_unknown (get_or c.index i None)))
 
 -- ---- what a call chooses
 
@@ -119,13 +121,13 @@ rels_in sheet rels k = list_of (λ j. rel_at sheet (rels + 264 * j)) k
 
 -- body i behind the unknowns so far, where it moves
 abbrev pub place_body : UnknownsStruct → ℕ → Bool → UnknownsStruct
-place_body l i moving = cond moving (record { n = l.n + 6; index = set l.index i l.n }) l
+place_body l i moving = cond moving (record { n = l.n + 6; index = set l.index i (Some l.n) }) l
 
--- the layout of the m bodies and k relations at these places; the entries behind the last body's are 65535
+-- the layout of the m bodies and k relations at these places; the entries behind the last body's are None
 pub record LaidOut (sheet : List ℕ) (bodies m rels k : ℕ) (l : UnknownsStruct) : Type 0 where
   pub unknown_count : l.n ≡ unknowns (scene_in sheet bodies m rels k)
-  pub index : (i : ℕ) → i < m → get_or (layout (scene_in sheet bodies m rels k)) i none ≡ first_unknown (get_or l.index i 0)
-  pub unused : (i : ℕ) → m ≤ i → i < 64 → get_or l.index i 0 ≡ 0xFFFF
+  pub index : (i : ℕ) → i < m → get_or (layout (scene_in sheet bodies m rels k)) i none ≡ first_unknown (get_or l.index i None)
+  pub unused : (i : ℕ) → m ≤ i → i < 64 → get_or l.index i None ≡ None
 
 -- the scene of the m bodies and k relations at these places; `laid` fixes the counts and the m bodies' entries of `index`, `unused` the entries behind them
 pub record SceneMade (sheet : List ℕ) (bodies m rels k : ℕ) (c : SceneStruct) : Type 0 where
@@ -135,4 +137,4 @@ pub record SceneMade (sheet : List ℕ) (bodies m rels k : ℕ) (c : SceneStruct
   pub body_count : c.m ≡ m
   pub rels_at : c.rels ≡ rels
   pub rel_count : c.k ≡ k
-  pub unused : (i : ℕ) → m ≤ i → i < 64 → get_or c.index i 0 ≡ 0xFFFF
+  pub unused : (i : ℕ) → m ≤ i → i < 64 → get_or c.index i None ≡ None

@@ -1,12 +1,13 @@
 // The scene: unknowns, poses, rows and weights of solve.rs, over parts of the lent scratch. Bodies and relations are read in place from a sheet's bytes.
 // `specs/Scene.antt` has the definitions.
 
-ghost use Rattle.std.specs.Prelude.{◌≡◌, List, map, ℕ, ◌+◌, ◌*◌, ◌-◌, ◌≤◌, ◌<◌, length, get_or, set, Float};
+ghost use Rattle.std.specs.Prelude.{◌≡◌, List, map, ◌+◌, ◌*◌, ◌-◌, ◌≤◌, ◌<◌, length, set, Float};
+ghost use Rattle.std.specs.Option.{ForSome};
 ghost use Rattle.numbers.specs.Double.{zero64};
 ghost use Rattle.vectors.specs.Vec.{vec};
 ghost use Rattle.relations.specs.Geometry as geometry;
 ghost use Rattle.relations.specs.Model.{body_number, body_of, law_of, rel_of, pose};
-ghost use Rattle.least_squares.specs.Memory.{part, Kept};
+ghost use Rattle.least_squares.specs.Memory.{part};
 ghost use Rattle.least_squares.specs.Lm as lm;
 ghost use Rattle.records.specs.Record as format;
 ghost use Rattle.relations.specs.Rows as rows_spec;
@@ -15,12 +16,12 @@ ghost use Rattle.scene.specs.Scene as spec;
 
 use judging::count::row_count;
 use records::record;
-use relations::model::{Body, BodyRef, Law, Pose, Rel};
+use relations::model::{Body, Law, Pose, Rel};
 use relations::rows::{Rows, residual};
 use vectors::math::M3;
 use vectors::vec::Vec3;
 
-// Counts of bodies, relations, unknowns and rows; the places of the first body and the first relation in the sheet; each body's first unknown, 65535 for none.
+// Counts of bodies, relations, unknowns and rows; the places of the first body and the first relation in the sheet; each body's first unknown.
 #[derive(Clone, Copy)]
 pub struct Scene {
     pub m: usize,
@@ -29,7 +30,34 @@ pub struct Scene {
     pub rows: usize,
     pub bodies: usize,
     pub rels: usize,
-    pub index: [u16; 64],
+    pub index: [Option<u16>; 64],
+}
+
+// A sheet's bytes with the scene that they hold. A scene has at most 7 rows for each of 128 relations and 6 unknowns for each of 64 bodies.
+#[derive(Clone, Copy)]
+pub struct Sheet<'a> {
+    pub bytes: &'a [u8],
+    pub scene: Scene,
+    pub ghost laid: { spec.Laid bytes.now scene },
+    pub ghost small: { (scene.rows ≤ 896) × (scene.n ≤ 384) },
+}
+
+impl Sheet<'_> {
+    // Body i.
+    pub fn body(self, i: usize) -> Body
+        requires { i < self.scene.m }
+        ensures { body_of result ≡ format.body_at self.entry.bytes.now (self.entry.scene.bodies + 136 * i) }
+    {
+        record::body_at(self.bytes, self.scene.bodies + 136 * i)
+    }
+
+    // Relation j.
+    pub fn relation(self, j: usize) -> Rel
+        requires { j < self.scene.k }
+        ensures { rel_of result ≡ format.rel_at self.entry.bytes.now (self.entry.scene.rels + 264 * j) }
+    {
+        record::rel_at(self.bytes, self.scene.rels + 264 * j)
+    }
 }
 
 fn vec_in(s: &[f64], o: usize) -> Vec3
@@ -82,12 +110,7 @@ pub fn put_pose(s: &mut [f64], o: usize, q: Pose)
     requires { o + 12 ≤ length s.old }
     ensures { spec.Put s.old s.new o 12 (spec.pose_doubles (pose q)) }
 {
-    let r = q.r;
-    let t = q.t;
-    let r0 = r.r0;
-    let r1 = r.r1;
-    let r2 = r.r2;
-    put_four(s, o, r0, r1, r2, t);
+    put_four(s, o, q.r.r0, q.r.r1, q.r.r2, q.t);
 }
 
 // k zeros from o on.
@@ -95,119 +118,84 @@ pub fn clear(s: &mut [f64], o: usize, k: usize)
     requires { o + k ≤ length s.old }
     ensures { spec.Put s.old s.new o k (lm.list_of (λ i. zero64) k) }
 {
-    for i in 0..k {
-        s[o + i] = 0.0;
-    }
+    s[o..o + k].fill(0.0);
 }
 
 // Turned by w about the body's centre, then moved by t.
+#[tactic(auto, unfolding(crate::specs::Solve::moved_pose))]
 pub fn moved_pose(b: Body, t: Vec3, w: Vec3) -> Pose
     ensures { pose result ≡ solve.moved_pose (body_of b) (vec t) (vec w) }
 {
-    let f = b.frame;
-    let center = b.center;
-    let base = Pose::of(f);
-    let r = base.r;
-    let o = base.t;
+    let base = Pose::of(b.frame);
     let rw = M3::exp(w);
     Pose {
-        r: rw.mul(r),
-        t: center.add(rw.apply(o.sub(center))).add(t),
+        r: rw.mul(base.r),
+        t: b.center + rw.apply(base.t - b.center) + t,
     }
 }
 
 // A body's pose at the n unknowns from x on; `first` is the body's entry of the index.
-fn body_pose(s: &[f64], x: usize, n: usize, b: Body, first: u16) -> Pose
+fn body_pose(s: &[f64], x: usize, n: usize, b: Body, first: Option<u16>) -> Pose
     requires n_in_bounds { x + n ≤ length s.now }
-    requires first_bound { (first ≡ 0xFFFF → ⊥) → first + 6 ≤ n }
+    requires first_bound { ForSome first (λ k. k + 6 ≤ n) }
     ensures { pose result ≡ solve.pose_at (part s.now x n) (body_of b) (spec.first_unknown first) }
 {
-    if first == 0xFFFF {
-        let f = b.frame;
-        return Pose::of(f);
-    }
+    let Some(first) = first else {
+        return Pose::of(b.frame);
+    };
     let k = first as usize;
     moved_pose(b, vec_in(s, x + k), vec_in(s, x + k + 3))
 }
 
-// Body i's pose, to place o.
-pub fn put_body(sheet: &[u8], scene: Scene, s: &mut [f64], x: usize, o: usize, i: usize)
-    requires laid { spec.Laid sheet.now scene }
-    requires i_lt_m { i < scene.m }
-    requires n_in_bounds { x + scene.n ≤ length s.old }
-    requires o_in_bounds { o + 12 ≤ length s.old }
-    ensures { spec.Put s.old s.new o 12 (spec.pose_doubles (spec.body_pose sheet.now scene (part s.old x scene.n) i)) }
-{
-    let b = record::body_at(sheet, scene.bodies + 136 * i);
-    let q = body_pose(s, x, scene.n, b, scene.index[i]);
-    put_pose(s, o, q);
-}
+impl Sheet<'_> {
+    ghost use Rattle.scene.specs.Sheet.{sheet_scene};
 
-// The poses of all bodies at the unknowns from x on, to place p.
-pub fn poses_at(sheet: &[u8], scene: Scene, s: &mut [f64], x: usize, p: usize)
-    requires laid { spec.Laid sheet.now scene }
-    requires n_bound { x + scene.n ≤ p }
-    requires m_in_bounds { p + 12 * scene.m ≤ length s.old }
-    ensures { spec.Put s.old s.new p (12 * scene.m) (spec.poses_doubles (solve.poses_at (spec.scene_of sheet.now scene) (part s.old x scene.n))) }
-{
-    let m = scene.m;
-    for i in 0..m {
-        put_body(sheet, scene, s, x, p + 12 * i, i);
+    // Body i's pose, to place o.
+    pub fn put_body(self, s: &mut [f64], x: usize, o: usize, i: usize)
+        requires i_lt_m { i < self.scene.m }
+        requires n_in_bounds { x + self.scene.n ≤ length s.old }
+        requires o_in_bounds { o + 12 ≤ length s.old }
+        ensures { spec.Put s.old s.new o 12 (spec.pose_doubles (spec.body_pose self.entry.bytes.now self.entry.scene (part s.old x self.entry.scene.n) i)) }
+    {
+        let b = self.body(i);
+        let q = body_pose(s, x, self.scene.n, b, self.scene.index[i]);
+        put_pose(s, o, q);
     }
-}
 
-// The pose of an end's body, the poses of m bodies standing from p on, where body i has the pose w; the ground's for an end that names none.
-fn end_pose(s: &[f64], p: usize, m: usize, place: BodyRef, i: usize, w: Pose) -> Pose
-    requires { p + 12 * m ≤ length s.now }
-    ensures { pose result ≡ solve.end_pose (set (spec.poses_in s.now p m) i (pose w)) (body_number place) }
-{
-    match place {
-        BodyRef::Ground => Pose::GROUND,
-        BodyRef::Of(k) => {
-            if k < m {
-                if k == i {
-                    return w;
-                }
-                pose_at(s, p + 12 * k)
-            } else {
-                Pose::GROUND
-            }
+    // The poses of all bodies at the unknowns from x on, to place p.
+    pub fn poses_at(self, s: &mut [f64], x: usize, p: usize)
+        requires n_bound { x + self.scene.n ≤ p }
+        requires m_in_bounds { p + 12 * self.scene.m ≤ length s.old }
+        ensures { spec.Put s.old s.new p (12 * self.entry.scene.m) (spec.poses_doubles (solve.poses_at (sheet_scene self.entry) (part s.old x self.entry.scene.n))) }
+    {
+        let m = self.scene.m;
+        for i in 0..m {
+            self.put_body(s, x, p + 12 * i, i);
         }
     }
 }
 
+// The pose of an end's body, the poses of m bodies standing from p on, where body i has the pose w; the ground's for an end that names none.
+#[tactic(auto, using(crate::proofs::SceneLaws::end_here, crate::proofs::SceneLaws::end_there, crate::proofs::SceneLaws::end_past))]
+fn end_pose(s: &[f64], p: usize, m: usize, body: Option<usize>, i: usize, w: Pose) -> Pose
+    requires { p + 12 * m ≤ length s.now }
+    ensures { pose result ≡ solve.end_pose (set (spec.poses_in s.now p m) i (pose w)) (body_number body) }
+{
+    match body {
+        Some(k) if k < m => { if k == i { w } else { pose_at(s, p + 12 * k) } }
+        _ => Pose::GROUND,
+    }
+}
+
 // What the third end belongs to, symmetry's plane or a gear's carrier.
-fn third_body(law: Law) -> BodyRef
+#[tactic(auto, unfolding(crate::specs::Solve::third_body))]
+fn third_body(law: Law) -> Option<usize>
     ensures { body_number result ≡ solve.third_body (law_of law) }
 {
     match law {
-        Law::Mate { offset: _ } => BodyRef::Ground,
-        Law::Flush { offset: _ } => BodyRef::Ground,
-        Law::Angle {
-            angle: _,
-            reference: _,
-        } => BodyRef::Ground,
-        Law::Insert {
-            offset: _,
-            aligned: _,
-        } => BodyRef::Ground,
-        Law::Tangent {
-            offset: _,
-            inside: _,
-        } => BodyRef::Ground,
         Law::Symmetry { plane } => plane.body,
-        Law::Joint {
-            joint: _,
-            flip: _,
-            offset: _,
-            angle: _,
-        } => BodyRef::Ground,
-        Law::Gear {
-            teeth_a: _,
-            teeth_b: _,
-            angle: _,
-            carrier,
-        } => carrier.body,
+        Law::Gear { carrier, .. } => carrier.body,
+        _ => None,
     }
 }
 
@@ -216,14 +204,9 @@ pub fn rel_rows_moved(s: &[f64], p: usize, m: usize, rel: Rel, i: usize, w: Pose
     requires { p + 12 * m ≤ length s.now }
     ensures { result ≡ rows_spec.pack (solve.rows_at (set (spec.poses_in s.now p m) i (pose w)) (rel_of rel)) }
 {
-    let law = rel.law;
-    let a = rel.a;
-    let b = rel.b;
-    let pa = a.body;
-    let pb = b.body;
-    let qa = end_pose(s, p, m, pa, i, w);
-    let qb = end_pose(s, p, m, pb, i, w);
-    let qs = end_pose(s, p, m, third_body(law), i, w);
+    let qa = end_pose(s, p, m, rel.a.body, i, w);
+    let qb = end_pose(s, p, m, rel.b.body, i, w);
+    let qs = end_pose(s, p, m, third_body(rel.law), i, w);
     residual(rel, qa, qb, qs)
 }
 
@@ -241,54 +224,50 @@ pub fn put_rows(s: &mut [f64], at: usize, rows: Rows) -> usize
     requires n_in_bounds { at + rows.n ≤ length s.old }
     ensures { spec.PutNext s.old s.new at result rows.n (rows_spec.rows_of rows) }
 {
-    let v = [
-        rows.r0, rows.r1, rows.r2, rows.r3, rows.r4, rows.r5, rows.r6,
-    ];
-    let n = rows.n;
-    for i in 0..n {
-        s[at + i] = v[i];
+    let end = at + rows.n;
+    s[at..end].copy_from_slice(&rows.values[..rows.n]);
+    end
+}
+
+impl Sheet<'_> {
+    ghost use Rattle.scene.specs.Sheet.{sheet_scene};
+
+    // The rows of relation j to the places from `at` on; the place behind them.
+    fn put_relation(self, s: &mut [f64], p: usize, at: usize, j: usize) -> usize
+        requires j_lt_k { j < self.scene.k }
+        requires j_bound { at + length (spec.rel_rows self.bytes.now self.scene (spec.poses_in s.old p self.scene.m) j) ≤ p }
+        requires m_in_bounds { p + 12 * self.scene.m ≤ length s.old }
+        ensures { spec.PutNext s.old s.new at result (length (spec.rel_rows self.entry.bytes.now self.entry.scene (spec.poses_in s.old p self.entry.scene.m) j)) (spec.rel_rows self.entry.bytes.now self.entry.scene (spec.poses_in s.old p self.entry.scene.m) j) }
+    {
+        let m = self.scene.m;
+        let rel = self.relation(j);
+        let rows = rel_rows(s, p, m, rel);
+        put_rows(s, at, rows)
     }
-    at + n
-}
 
-// The rows of relation j to the places from `at` on; the place behind them.
-fn put_relation(sheet: &[u8], scene: Scene, s: &mut [f64], p: usize, at: usize, j: usize) -> usize
-    requires laid { spec.Laid sheet.now scene }
-    requires j_lt_k { j < scene.k }
-    requires j_bound { at + length (spec.rel_rows sheet.now scene (spec.poses_in s.old p scene.m) j) ≤ p }
-    requires m_in_bounds { p + 12 * scene.m ≤ length s.old }
-    ensures { spec.PutNext s.old s.new at result (length (spec.rel_rows sheet.now scene (spec.poses_in s.old p scene.m) j)) (spec.rel_rows sheet.now scene (spec.poses_in s.old p scene.m) j) }
-{
-    let m = scene.m;
-    let rel = record::rel_at(sheet, scene.rels + 264 * j);
-    let rows = rel_rows(s, p, m, rel);
-    put_rows(s, at, rows)
-}
-
-// The rows of all relations, from the poses at p, to the places from r on.
-pub fn residuals(sheet: &[u8], scene: Scene, s: &mut [f64], p: usize, r: usize)
-    requires laid { spec.Laid sheet.now scene }
-    requires rows_bound { r + scene.rows ≤ p }
-    requires m_in_bounds { p + 12 * scene.m ≤ length s.old }
-    ensures { spec.Put s.old s.new r scene.rows (solve.all_rows (spec.poses_in s.old p scene.m) (spec.scene_of sheet.now scene).rels) }
-{
-    let k = scene.k;
-    let mut at = r;
-    for j in 0..k {
-        at = put_relation(sheet, scene, s, p, at, j);
+    // The rows of all relations, from the poses at p, to the places from r on.
+    pub fn residuals(self, s: &mut [f64], p: usize, r: usize)
+        requires rows_bound { r + self.scene.rows ≤ p }
+        requires m_in_bounds { p + 12 * self.scene.m ≤ length s.old }
+        ensures { spec.Put s.old s.new r self.entry.scene.rows (solve.all_rows (spec.poses_in s.old p self.entry.scene.m) (sheet_scene self.entry).rels) }
+    {
+        let k = self.scene.k;
+        let mut at = r;
+        for j in 0..k {
+            at = self.put_relation(s, p, at, j);
+        }
     }
-}
 
-// The rows at the unknowns from x on, to the places from r on. The places from p on are scratch for the poses; what they hold at exit is open.
-pub fn rows_at(sheet: &[u8], scene: Scene, s: &mut [f64], x: usize, r: usize, p: usize)
-    requires laid { spec.Laid sheet.now scene }
-    requires n_bound { x + scene.n ≤ r }
-    requires rows_bound { r + scene.rows ≤ p }
-    requires m_in_bounds { p + 12 * scene.m ≤ length s.old }
-    ensures { spec.RowsAt (spec.scene_of sheet.now scene) s.old s.new x scene.n r scene.rows p }
-{
-    poses_at(sheet, scene, s, x, p);
-    residuals(sheet, scene, s, p, r);
+    // The rows at the unknowns from x on, to the places from r on. The places from p on are scratch for the poses; what they hold at exit is open.
+    pub fn rows_at(self, s: &mut [f64], x: usize, r: usize, p: usize)
+        requires n_bound { x + self.scene.n ≤ r }
+        requires rows_bound { r + self.scene.rows ≤ p }
+        requires m_in_bounds { p + 12 * self.scene.m ≤ length s.old }
+        ensures { spec.RowsAt (sheet_scene self.entry) s.old s.new x self.entry.scene.n r self.entry.scene.rows p }
+    {
+        self.poses_at(s, x, p);
+        self.residuals(s, p, r);
+    }
 }
 
 fn inverse_weight(w: f64) -> f64
@@ -298,6 +277,7 @@ fn inverse_weight(w: f64) -> f64
 }
 
 // Half the size, at least 1.
+#[tactic(auto, unfolding(crate::specs::Solve::half_size))]
 pub fn half_size(size: f64) -> f64
     ensures { result ≡ solve.half_size size }
 {
@@ -305,13 +285,11 @@ pub fn half_size(size: f64) -> f64
 }
 
 // The drag weight for the dragged body.
-fn drag_factor(weight: f64, drag: BodyRef, i: usize) -> f64
+#[tactic(auto, unfolding(crate::specs::Solve::drag_factor))]
+fn drag_factor(weight: f64, drag: Option<usize>, i: usize) -> f64
     ensures { result ≡ solve.drag_factor weight (body_number drag) i }
 {
-    match drag {
-        BodyRef::Ground => 1.0,
-        BodyRef::Of(d) => if d == i { weight } else { 1.0 },
-    }
+    if drag == Some(i) { weight } else { 1.0 }
 }
 
 // The six inverse weights of a body that moves.
@@ -341,76 +319,57 @@ fn put_six(s: &mut [f64], o: usize, scale: f64, half: f64)
     );
 }
 
-// The inverse weights of body i to the places from `at` on; the place behind them.
-fn put_weights(
-    sheet: &[u8],
-    scene: Scene,
-    s: &mut [f64],
-    at: usize,
-    weight: f64,
-    drag: BodyRef,
-    i: usize,
-) -> usize
-    requires laid { spec.Laid sheet.now scene }
-    requires i_lt_m { i < scene.m }
-    requires i_in_bounds { at + length (spec.inverse_at sheet.now scene weight (body_number drag) i) ≤ length s.old }
-    ensures { spec.PutNext s.old s.new at result (length (spec.inverse_at sheet.now scene weight (body_number drag) i)) (spec.inverse_at sheet.now scene weight (body_number drag) i) }
-{
-    let first = scene.index[i];
-    if first == 0xFFFF {
-        return at;
-    }
-    let b = record::body_at(sheet, scene.bodies + 136 * i);
-    put_six(s, at, drag_factor(weight, drag, i), half_size(b.size));
-    at + 6
-}
+impl Sheet<'_> {
+    ghost use Rattle.scene.specs.Sheet.{sheet_scene};
 
-// 1 over each unknown's weight, to the places from w on; `weight` is the drag weight, `drag` the dragged body.
-pub fn inverse_weights(
-    sheet: &[u8],
-    scene: Scene,
-    s: &mut [f64],
-    w: usize,
-    weight: f64,
-    drag: BodyRef,
-)
-    requires laid { spec.Laid sheet.now scene }
-    requires n_in_bounds { w + scene.n ≤ length s.old }
-    ensures { spec.Put s.old s.new w scene.n (map lm.inverse_weight (solve.weights (spec.scene_of sheet.now scene) weight (body_number drag))) }
-{
-    let m = scene.m;
-    let mut at = w;
-    for i in 0..m {
-        at = put_weights(sheet, scene, s, at, weight, drag, i);
+    // The inverse weights of body i to the places from `at` on; the place behind them.
+    fn put_weights(
+        self,
+        s: &mut [f64],
+        at: usize,
+        weight: f64,
+        drag: Option<usize>,
+        i: usize,
+    ) -> usize
+        requires i_lt_m { i < self.scene.m }
+        requires i_in_bounds { at + length (spec.inverse_at self.bytes.now self.scene weight (body_number drag) i) ≤ length s.old }
+        ensures { spec.PutNext s.old s.new at result (length (spec.inverse_at self.entry.bytes.now self.entry.scene weight (body_number drag) i)) (spec.inverse_at self.entry.bytes.now self.entry.scene weight (body_number drag) i) }
+    {
+        let first = self.scene.index[i];
+        let Some(_k) = first else {
+            return at;
+        };
+        let b = self.body(i);
+        put_six(s, at, drag_factor(weight, drag, i), half_size(b.size));
+        at + 6
+    }
+
+    // 1 over each unknown's weight, to the places from w on; `weight` is the drag weight, `drag` the dragged body.
+    pub fn inverse_weights(self, s: &mut [f64], w: usize, weight: f64, drag: Option<usize>)
+        requires n_in_bounds { w + self.scene.n ≤ length s.old }
+        ensures { spec.Put s.old s.new w self.entry.scene.n (map lm.inverse_weight (solve.weights (sheet_scene self.entry) weight (body_number drag))) }
+    {
+        let m = self.scene.m;
+        let mut at = w;
+        for i in 0..m {
+            at = self.put_weights(s, at, weight, drag, i);
+        }
     }
 }
 
 // Whether an end belongs to body i.
-fn is_body(place: BodyRef, i: usize) -> bool
-    ensures { result ≡ solve.is_body (body_number place) i }
+fn is_body(body: Option<usize>, i: usize) -> bool
+    ensures { result ≡ solve.is_body (body_number body) i }
 {
-    match place {
-        BodyRef::Ground => false,
-        BodyRef::Of(k) => k == i,
-    }
+    body == Some(i)
 }
 
 // Whether an end that the relation uses belongs to body i.
+#[tactic(auto, unfolding(crate::specs::Solve::names))]
 pub fn names(rel: Rel, i: usize) -> bool
     ensures { result ≡ solve.names (rel_of rel) i }
 {
-    let law = rel.law;
-    let a = rel.a;
-    let b = rel.b;
-    let pa = a.body;
-    let pb = b.body;
-    if is_body(pa, i) {
-        return true;
-    }
-    if is_body(pb, i) {
-        return true;
-    }
-    is_body(third_body(law), i)
+    is_body(rel.a.body, i) || is_body(rel.b.body, i) || is_body(third_body(rel.law), i)
 }
 
 fn named(sheet: &[u8], rels: usize, k: usize, i: usize) -> bool
@@ -427,6 +386,7 @@ fn named(sheet: &[u8], rels: usize, k: usize, i: usize) -> bool
 }
 
 // Whether body i, which stands at o, has unknowns.
+#[tactic(auto, unfolding(crate::specs::Solve::moves))]
 fn moves(sheet: &[u8], o: usize, rels: usize, k: usize, i: usize) -> bool
     requires o_in_bounds { o + 136 ≤ length sheet.now }
     requires k_in_bounds { rels + 264 * k ≤ length sheet.now }
@@ -443,7 +403,7 @@ fn moves(sheet: &[u8], o: usize, rels: usize, k: usize, i: usize) -> bool
 #[derive(Clone, Copy)]
 pub struct Unknowns {
     pub n: usize,
-    pub index: [u16; 64],
+    pub index: [Option<u16>; 64],
 }
 
 // Body i placed behind the unknowns so far, where it moves.
@@ -455,7 +415,7 @@ fn place_body(l: Unknowns, i: usize, moving: bool) -> Unknowns
     if moving {
         let n = l.n;
         let mut index = l.index;
-        index[i] = n as u16;
+        index[i] = Some(n as u16);
         return Unknowns { n: n + 6, index };
     }
     l
@@ -468,7 +428,7 @@ fn layout(sheet: &[u8], bodies: usize, m: usize, rels: usize, k: usize) -> Unkno
     requires k_in_bounds { rels + 264 * k ≤ length sheet.now }
     ensures { spec.LaidOut sheet.now bodies m rels k result }
 {
-    let index = [0xFFFFu16; 64];
+    let index = [None; 64];
     let mut l = Unknowns { n: 0, index };
     for i in 0..m {
         let moving = moves(sheet, bodies + 136 * i, rels, k, i);
@@ -492,19 +452,20 @@ fn count_rows(sheet: &[u8], rels: usize, k: usize) -> usize
     rows
 }
 
-// The scene of the m bodies and k relations at these places of the sheet. The entries of `index` from m on are 65535.
-pub fn scene_of(sheet: &[u8], bodies: usize, m: usize, rels: usize, k: usize) -> Scene
+// The m bodies and k relations at these places of the sheet. The entries of `index` from m on are `None`.
+pub fn scene_of(sheet: &[u8], bodies: usize, m: usize, rels: usize, k: usize) -> Sheet<'_>
     requires m_bound { m ≤ 64 }
     requires k_bound { k ≤ 128 }
     requires m_in_bounds { bodies + 136 * m ≤ length sheet.now }
     requires k_in_bounds { rels + 264 * k ≤ length sheet.now }
-    ensures { spec.SceneMade sheet.now bodies m rels k result }
+    ensures bytes { result.bytes.now ≡ sheet.now }
+    ensures made { spec.SceneMade sheet.now bodies m rels k result.scene }
 {
     let l = layout(sheet, bodies, m, rels, k);
     let rows = count_rows(sheet, rels, k);
     let n = l.n;
     let index = l.index;
-    Scene {
+    let scene = Scene {
         m,
         k,
         n,
@@ -512,5 +473,9 @@ pub fn scene_of(sheet: &[u8], bodies: usize, m: usize, rels: usize, k: usize) ->
         bodies,
         rels,
         index,
+    };
+    Sheet {
+        bytes: sheet,
+        scene,
     }
 }

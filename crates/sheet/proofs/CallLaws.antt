@@ -8,11 +8,10 @@ use native.Mathlib.Omega.{arith}
 use lib.ListN.{length, drop}
 use lib.Dec.{leb, ltb}
 use lib.Ieee.{Float}
-use borrow.Author.Tests.{ltb-true, lt-ltb, le-ltb, le-leb, lt-leb, ne_eqb}
-use Rattle.vectors.specs.Vec.{Vec, zero_v}
+use borrow.Author.Tests.{ltb-true, lt-ltb, le-leb, lt-leb, ne_eqb}
+use Rattle.vectors.specs.Vec.{Vec}
 use Rattle.relations.specs.Geometry.{Pose}
 use Rattle.relations.specs.Model.{Body, Rel, pose_of_frame}
-use Rattle.relations.specs.Rows.{ground_pose}
 use Rattle.judging.specs.Judge.{Reading, judge, joint_reading}
 use Rattle.snapping.specs.Snap.{Motion, snap}
 use Rattle.scene.specs.Scene.{pose_doubles}
@@ -28,10 +27,6 @@ use Rattle.format.proofs.RefusalLaws.{later, none_of, sheet_passes}
 or_else_assoc : (a b c : ℕ) → or_else a (or_else b c) ≡ or_else (or_else a b) c
 or_else_assoc zero b c = refl
 or_else_assoc (suc a) b c = refl
-
-pub reading_parts : (s : List ℕ) (j : ℕ) → reading_fault s j ≡ or_else (sheet_fault s) (relation_fault s j)
-unfolding reading_fault
-reading_parts s j = refl
 
 pub judge_parts : (s : List ℕ) (j : ℕ) → judge_fault s j ≡ or_else (reading_fault s j) (judge (relation_of s j))
 unfolding judge_fault reading_fault
@@ -60,12 +55,6 @@ reading_passes s j h =
     let z = sheet_passes s p.0 in
     record { header = z.header; whole = z.whole; below = ltb-true j (relations_of s) (found (ltb j (relations_of s)) p.1) }
 
-pub relation_there : (s : List ℕ) (j k : ℕ) → k ≡ relations_of s → j < k → 0 ≡ relation_fault s j
-relation_there s j k e l = rw (← e, lt-ltb j k l)
-
-pub relation_missing : (s : List ℕ) (j k : ℕ) → k ≡ relations_of s → k ≤ j → 13 ≡ relation_fault s j
-relation_missing s j k e l = rw (← e, le-ltb j k l)
-
 pub twelve_lent : (n : ℕ) → 12 ≤ n → 0 ≡ unless (leb 12 n) 10
 twelve_lent n h = rw (le-leb 12 n h)
 
@@ -78,18 +67,6 @@ pub pose_there : (s : List ℕ) (i m : ℕ) (b : Body) (q : Pose Float) → m �
     → q ≡ pose_in s (some i)
 unfolding pose_in
 pose_there s i m b q em l eb eq = rw (eq, eb, ← em, lt-ltb i m l)
-
-pub pose_missing : (s : List ℕ) (i m : ℕ) → m ≡ bodies_of s → m ≤ i → ground_pose ≡ pose_in s (some i)
-unfolding pose_in
-pose_missing s i m em l = rw (← em, le-ltb i m l)
-
-pub center_there : (s : List ℕ) (i m : ℕ) (b : Body) → m ≡ bodies_of s → i < m → b ≡ body_at s (body_start i) → b.center ≡ center_in s (some i)
-unfolding center_in
-center_there s i m b em l eb = rw (eb, ← em, lt-ltb i m l)
-
-pub center_missing : (s : List ℕ) (i m : ℕ) → m ≡ bodies_of s → m ≤ i → zero_v ≡ center_in s (some i)
-unfolding center_in
-center_missing s i m em l = rw (← em, le-ltb i m l)
 
 pub reading_is : (s : List ℕ) (j : ℕ) (rel : Rel) (qa qb : Pose Float) (w : Reading) → rel ≡ relation_of s j → qa ≡ pose_in s rel.a.body → qb ≡ pose_in s rel.b.body
     → w ≡ joint_reading rel qa qb → w ≡ reading_of s j

@@ -23,7 +23,8 @@ use Rattle.format.specs.Faults.{unless, sheet_fault}
 use Rattle.refusals.specs.Refusals.{dof_scratch, dof_fault}
 use Rattle.sheet.specs.Freedoms.{freedoms_of, DofAnswer}
 use Rattle.format.proofs.RefusalLaws.{none_of}
-use Rattle.refusals.proofs.FigureLaws.{counted, few, row_count, scene_is, unknown_count, unknowns_le}
+use Rattle.scene.proofs.LayoutLaws.{unknowns_le}
+use Rattle.refusals.proofs.FigureLaws.{counted, few, row_count, scene_is, unknown_count}
 use Rattle.sheet.proofs.SolvingLaws.{passes}
 
 -- ---- what an accepted call says

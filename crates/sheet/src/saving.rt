@@ -2,6 +2,7 @@
 
 ghost use Rattle.writing.specs.Lent.{WriteAnswer};
 
+use faults::fault::number_of;
 use writing::write::write;
 
 // Writes the sheet of m bodies and k relations.
@@ -16,5 +17,5 @@ pub extern "C" fn sheet_write(
 ) -> u32
     ensures { WriteAnswer m k bytes.now words.now numbers.now result sheet.old sheet.new }
 {
-    write(m, k, bytes, words, numbers, sheet)
+    number_of(write(m, k, bytes, words, numbers, sheet))
 }

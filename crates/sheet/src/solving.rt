@@ -2,32 +2,31 @@
 // definitions.
 
 ghost use Rattle.std.specs.Prelude.{◌≡◌};
+ghost use Rattle.faults.specs.Fault.{number_of};
 ghost use Rattle.relations.specs.Model.{body_number};
 ghost use Rattle.records.specs.Numbers.{flag_number};
 ghost use Rattle.scene.specs.Scene.{parameters_of};
 ghost use Rattle.sheet.specs.Solving as solving;
 
+use faults::fault::{Fault, number_of};
 use placement::solve::solve;
 use refusals::figures::scene_in;
-use refusals::lent::solve_fault;
-use relations::model::BodyRef;
+use refusals::lent::{Lengths, solve_fault};
 use scene::parameters::{Parameters, plain};
 
 // The dragged body; 65535 is none.
-pub fn drag_body(drag: u16) -> BodyRef
+#[tactic(auto, using(crate::proofs::SolvingLaws::drag_ground, crate::proofs::SolvingLaws::drag_body))]
+pub fn drag_body(drag: u16) -> Option<usize>
     ensures { body_number result ≡ solving.drag_of drag }
 {
-    if drag == 0xFFFF {
-        return BodyRef::Ground;
-    }
-    BodyRef::Of(drag as usize)
+    (drag != 0xFFFF).then_some(drag as usize)
 }
 
 // A flag as a byte.
 pub fn flag(ok: bool) -> u8
     ensures { result ≡ flag_number ok }
 {
-    if ok { 1 } else { 0 }
+    u8::from(ok)
 }
 
 // Where each body stands, how far off each relation is, and whether all are within the tolerance, by what is chosen.
@@ -40,26 +39,21 @@ fn solve_by(
     frames: &mut [f64],
     errors: &mut [f64],
     converged: &mut u8,
-) -> u32
-    ensures { solving.SolveWithAnswer sheet.now (parameters_of q) drag result scratch.old scratch.new poses.old poses.new frames.old frames.new errors.old errors.new converged.old converged.new }
+) -> Result<(), Fault>
+    ensures { solving.SolveWithAnswer sheet.now (parameters_of q) drag (number_of result) scratch.old scratch.new poses.old poses.new frames.old frames.new errors.old errors.new converged.old converged.new }
 {
-    let number = solve_fault(
-        sheet,
-        q,
-        drag,
-        scratch.len(),
-        poses.len(),
-        frames.len(),
-        errors.len(),
-    );
-    if number == 0 {
-        let scene = scene_in(sheet);
-        let place = drag_body(drag);
-        let ok = solve(sheet, scene, scratch, q, place, poses, frames, errors);
-        *converged = flag(ok);
-        return 0;
-    }
-    number
+    let lent = Lengths {
+        scratch: scratch.len(),
+        poses: poses.len(),
+        frames: frames.len(),
+        errors: errors.len(),
+    };
+    solve_fault(sheet, q, drag, lent)?;
+    let held = scene_in(sheet);
+    let place = drag_body(drag);
+    let ok = solve(held, scratch, q, place, poses, frames, errors);
+    *converged = flag(ok);
+    Ok(())
 }
 
 // A call that chooses nothing: the tolerance is 1e-9, and there are at most two runs of 60 rounds.
@@ -75,7 +69,7 @@ pub extern "C" fn sheet_solve(
 ) -> u32
     ensures { solving.SolveAnswer sheet.now drag result scratch.old scratch.new poses.old poses.new frames.old frames.new errors.old errors.new converged.old converged.new }
 {
-    solve_by(
+    number_of(solve_by(
         sheet,
         plain(),
         drag,
@@ -84,7 +78,7 @@ pub extern "C" fn sheet_solve(
         frames,
         errors,
         converged,
-    )
+    ))
 }
 
 // A call that chooses the tolerance, the most rounds of one run, the most rows that are iterated, and the weight of the dragged body.
@@ -110,5 +104,5 @@ pub extern "C" fn sheet_solve_with(
         limit: limit as usize,
         weight,
     };
-    solve_by(sheet, q, drag, scratch, poses, frames, errors, converged)
+    number_of(solve_by(sheet, q, drag, scratch, poses, frames, errors, converged))
 }

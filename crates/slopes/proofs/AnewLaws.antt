@@ -7,7 +7,7 @@ use mathlib.Core.Option.{Option, none, some}
 use Prim.Native.Nat.{ℕ, zero, suc, ◌+◌, ◌*◌, ◌≤◌, ◌<◌}
 use native.Mathlib.Omega.{arith}
 use native.Mathlib.Numerals.{add-one}
-use borrow.Author.Tests.{eq-eqb, ne_eqb}
+use borrow.Author.Tests.{eq-eqb}
 use lib.ListN.{length, get_or, set, take, drop}
 use lib.Seq.{get_or-set_other}
 use lib.Ieee.{Float, nan}
@@ -16,6 +16,7 @@ use Rattle.relations.specs.Model.{Body, Rel}
 use Rattle.relations.specs.Rows.{residual, ground_pose}
 use Rattle.records.specs.Record.{body_at}
 use Rattle.scene.specs.Solve.{Scene, is_body, third_body, names, moves, layout_from, layout, unknowns_in, three, moved_pose, pose_at, poses_from, poses_at, end_pose, rows_at}
+use Rattle.std.specs.Prelude.{None, Some}
 use Rattle.scene.specs.Scene.{first_unknown, scene_of, Laid}
 use Rattle.scene.specs.declared.scene.Scene.{Scene as SceneStruct}
 use Rattle.scene.proofs.SceneLaws.{next_layout, laid_length, bodies_next, layout_next}
@@ -229,10 +230,8 @@ moved_back sheet c i k e xs v laid h g l =
 
 -- ---- a body with unknowns has its first, and one without has none
 
-pub first_some : (sheet : List ℕ) (c : SceneStruct) (i k : ℕ) → Laid sheet c → i < c.m → get_or c.index i 0 ≡ k → (k ≡ 0xFFFF → ⊥) → get_or (layout (scene_of sheet c)) i none ≡ some k
-unfolding first_unknown
-first_some sheet c i k laid h e n = laid.index i h ∙ ap first_unknown e ∙ rw (ne_eqb k 0xFFFF n)
+pub first_some : (sheet : List ℕ) (c : SceneStruct) (i k : ℕ) → Laid sheet c → i < c.m → get_or c.index i None ≡ Some k → get_or (layout (scene_of sheet c)) i none ≡ some k
+first_some sheet c i k laid h e = laid.index i h ∙ ap first_unknown e
 
-pub first_none : (sheet : List ℕ) (c : SceneStruct) (i : ℕ) → Laid sheet c → i < c.m → get_or c.index i 0 ≡ 0xFFFF → get_or (layout (scene_of sheet c)) i none ≡ none
-unfolding first_unknown
-first_none sheet c i laid h e = laid.index i h ∙ rw (eq-eqb (get_or c.index i 0) 0xFFFF e)
+pub first_none : (sheet : List ℕ) (c : SceneStruct) (i : ℕ) → Laid sheet c → i < c.m → get_or c.index i None ≡ None → get_or (layout (scene_of sheet c)) i none ≡ none
+first_none sheet c i laid h e = laid.index i h ∙ ap first_unknown e

@@ -1,14 +1,15 @@
 -- The slopes body by body: a body's poses a step ahead and a step behind are those of the definition, so the slopes of the rows there are its six columns, and all bodies' columns are
 -- all columns. Assumes nothing.
 use mathlib.Core.Path.{◌≡◌, refl, sym, ap, subst, ◌∙◌}
-use mathlib.Core.List.{List, [], ◌∷◌}
+use mathlib.Core.List.{List}
 use mathlib.Core.Option.{none, some}
-use Prim.Native.Nat.{ℕ, zero, suc, ◌+◌, ◌-◌, ◌*◌, ◌≤◌, ◌<◌}
+use Prim.Native.Nat.{ℕ, ◌+◌, ◌-◌, ◌*◌, ◌≤◌, ◌<◌}
 use native.Mathlib.Omega.{arith}
 use native.Mathlib.Decide.{dec_lt}
 use lib.ListN.{length, get_or, set}
-use lib.Seq.{get_or-set_same, get_or-set_other, ext_get_or}
+use lib.Seq.{get_or-set_same, get_or-set_other}
 use lib.Ieee.{Float, nan, binary64, add, sub}
+use Rattle.std.specs.Prelude.{None}
 use Rattle.numbers.specs.Double.{zero64}
 use Rattle.relations.specs.Geometry.{Pose}
 use Rattle.relations.specs.Model.{Body}
@@ -30,21 +31,6 @@ use Rattle.slopes.proofs.MovedLaws.{poses_behind_lem}
 use Rattle.slopes.proofs.AnewLaws.{moved_back, given_first, given_next, given_still, first_none}
 
 -- ---- the six unknowns of a body, by themselves
-
--- six doubles read one by one
-pub six_part : (s : List Float) (o : ℕ) → o + 6 ≤ length s
-    → (get_or s o nan ∷ get_or s (o + 1) nan ∷ get_or s (o + 2) nan ∷ get_or s (o + 3) nan ∷ get_or s (o + 4) nan ∷ get_or s (o + 5) nan ∷ []) ≡ part s o 6
-six_part s o h = ext_get_or nan _ (part s o 6) (sym (part_length s o 6 h)) at
-  where
-    at : (i : ℕ) → i < 6
-        → get_or (get_or s o nan ∷ get_or s (o + 1) nan ∷ get_or s (o + 2) nan ∷ get_or s (o + 3) nan ∷ get_or s (o + 4) nan ∷ get_or s (o + 5) nan ∷ []) i nan ≡ get_or (part s o 6) i nan
-    at zero l = let e : o ≡ o + 0 = omega arith in ap (λ (w : ℕ). get_or s w nan) e ∙ sym (part_at s o 6 0 nan l)
-    at (suc zero) l = sym (part_at s o 6 1 nan l)
-    at (suc (suc zero)) l = sym (part_at s o 6 2 nan l)
-    at (suc (suc (suc zero))) l = sym (part_at s o 6 3 nan l)
-    at (suc (suc (suc (suc zero)))) l = sym (part_at s o 6 4 nan l)
-    at (suc (suc (suc (suc (suc zero))))) l = sym (part_at s o 6 5 nan l)
-    at (suc (suc (suc (suc (suc (suc i)))))) l = absurd (omega arith)
 
 pose_six : (xs : List Float) (b : Body) (k e : ℕ) (v : Float) → e < 6 → pose_at (set (part xs k 6) e v) b (some 0) ≡ pose_at (set xs (k + e) v) b (some k)
 unfolding pose_at
@@ -177,7 +163,7 @@ body_some sheet c at s t i k e g =
     subst (λ (q : ℕ). ColumnsFrom (scene_of sheet c) c at s t (given (scene_of sheet c) i) q) (given_next (scene_of sheet c) i k e)
     (subst (λ (q : ℕ). ColumnsFrom (scene_of sheet c) c at s t q (k + 6)) (given_first (scene_of sheet c) i k e) g)
 
-pub body_none : (sheet : List ℕ) (c : SceneStruct) (at : PartsStruct) (s : List Float) (i : ℕ) → Laid sheet c → i < c.m → get_or c.index i 0 ≡ 0xFFFF
+pub body_none : (sheet : List ℕ) (c : SceneStruct) (at : PartsStruct) (s : List Float) (i : ℕ) → Laid sheet c → i < c.m → get_or c.index i None ≡ None
     → ColumnsFrom (scene_of sheet c) c at s s (given (scene_of sheet c) i) (given (scene_of sheet c) (i + 1))
 body_none sheet c at s i laid h e =
     let w = given_still (scene_of sheet c) i (first_none sheet c i laid h e) in

@@ -7,14 +7,14 @@ ghost use Rattle.std.proofs.Math.Option.{none, some};
 ghost use Rattle.relations.specs.Model.{body_of, pose};
 ghost use Rattle.least_squares.specs.Memory.{part};
 ghost use Rattle.scene.specs.Solve as definitions;
-ghost use Rattle.scene.specs.Scene.{Laid, scene_of, Slopes};
+ghost use Rattle.scene.specs.Scene.{Slopes};
+ghost use Rattle.scene.specs.Sheet.{sheet_scene};
 ghost use Rattle.slopes.specs.AnewSlopes as spec;
 
 use crate::moved::named_columns;
 use crate::slopes::step_of;
-use records::record::body_at;
 use relations::model::{Body, Pose};
-use scene::scene::{Scene, clear, moved_pose, poses_at, put_pose};
+use scene::scene::{Sheet, clear, moved_pose, put_pose};
 use vectors::vec::Vec3;
 
 // Where things stand: the unknowns, the slopes, the poses.
@@ -34,6 +34,7 @@ fn six_at(s: &[f64], o: usize) -> [f64; 6]
 }
 
 // The pose of a body that moves, at its six unknowns.
+#[tactic(auto, unfolding(scene::specs::Solve::pose_at))]
 fn six_pose(b: Body, x: [f64; 6]) -> Pose
     ensures { pose result ≡ definitions.pose_at x (body_of b) (some 0) }
 {
@@ -79,57 +80,52 @@ fn moved_poses(moved: &mut [f64], b: Body, x: [f64; 6]) -> [f64; 6]
 }
 
 // The six columns of body i, whose first unknown is k.
-fn body_columns(sheet: &[u8], scene: Scene, s: &mut [f64], at: SlopeParts, i: usize, k: usize)
-    requires laid { Laid sheet.now scene }
-    requires apart { spec.Apart scene at (length s.old) }
-    requires i_lt_m { (i < scene.m) × (k + 6 ≤ scene.n) }
-    requires none_value { get_or (definitions.layout (scene_of sheet.now scene)) i none ≡ some k }
-    requires standing { spec.Standing (scene_of sheet.now scene) scene at s.old k }
-    ensures { spec.ColumnsFrom (scene_of sheet.now scene) scene at s.old s.new k (k + 6) }
+fn body_columns(sheet: Sheet, s: &mut [f64], at: SlopeParts, i: usize, k: usize)
+    requires apart { spec.Apart sheet.scene at (length s.old) }
+    requires i_lt_m { (i < sheet.scene.m) × (k + 6 ≤ sheet.scene.n) }
+    requires none_value { get_or (definitions.layout (sheet_scene sheet)) i none ≡ some k }
+    requires standing { spec.Standing (sheet_scene sheet) sheet.scene at s.old k }
+    ensures { spec.ColumnsFrom (sheet_scene sheet.entry) sheet.entry.scene at s.old s.new k (k + 6) }
 {
-    let b = body_at(sheet, scene.bodies + 136 * i);
+    let b = sheet.body(i);
     let x = six_at(s, at.x + k);
     let mut moved = [0.0; 144];
     let steps = moved_poses(&mut moved, b, x);
     named_columns(
         sheet,
-        scene,
         s,
         at.poses,
         i,
         &moved,
         steps,
         at.slopes + k,
-        scene.n,
+        sheet.scene.n,
     );
 }
 
 // The columns of body i, none where it has no unknowns.
-fn anew_body(sheet: &[u8], scene: Scene, s: &mut [f64], at: SlopeParts, i: usize)
-    requires laid { Laid sheet.now scene }
-    requires apart { spec.Apart scene at (length s.old) }
-    requires i_lt_m { i < scene.m }
-    requires standing { spec.Standing (scene_of sheet.now scene) scene at s.old (spec.given (scene_of sheet.now scene) i) }
-    ensures { spec.ColumnsFrom (scene_of sheet.now scene) scene at s.old s.new (spec.given (scene_of sheet.now scene) i) (spec.given (scene_of sheet.now scene) (i + 1)) }
+fn anew_body(sheet: Sheet, s: &mut [f64], at: SlopeParts, i: usize)
+    requires apart { spec.Apart sheet.scene at (length s.old) }
+    requires i_lt_m { i < sheet.scene.m }
+    requires standing { spec.Standing (sheet_scene sheet) sheet.scene at s.old (spec.given (sheet_scene sheet) i) }
+    ensures { spec.ColumnsFrom (sheet_scene sheet.entry) sheet.entry.scene at s.old s.new (spec.given (sheet_scene sheet.entry) i) (spec.given (sheet_scene sheet.entry) (i + 1)) }
 {
-    let first = scene.index[i];
-    if first == 0xFFFF {
+    let first = sheet.scene.index[i];
+    let Some(k) = first else {
         return;
-    }
-    let k = first as usize;
-    body_columns(sheet, scene, s, at, i, k);
+    };
+    body_columns(sheet, s, at, i, k as usize);
 }
 
 // The slopes of the rows at the unknowns. Below the poses nothing else changes.
-pub fn slopes(sheet: &[u8], scene: Scene, s: &mut [f64], at: SlopeParts)
-    requires laid { Laid sheet.now scene }
-    requires apart { spec.Apart scene at (length s.old) }
-    ensures { Slopes (scene_of sheet.now scene) s.old s.new at.slopes scene.n scene.rows at.x at.poses }
+pub fn slopes(sheet: Sheet, s: &mut [f64], at: SlopeParts)
+    requires apart { spec.Apart sheet.scene at (length s.old) }
+    ensures { Slopes (sheet_scene sheet.entry) s.old s.new at.slopes sheet.entry.scene.n sheet.entry.scene.rows at.x at.poses }
 {
-    clear(s, at.slopes, scene.rows * scene.n);
-    poses_at(sheet, scene, s, at.x, at.poses);
-    let m = scene.m;
+    clear(s, at.slopes, sheet.scene.rows * sheet.scene.n);
+    sheet.poses_at(s, at.x, at.poses);
+    let m = sheet.scene.m;
     for i in 0..m {
-        anew_body(sheet, scene, s, at, i);
+        anew_body(sheet, s, at, i);
     }
 }

@@ -8,7 +8,8 @@ ghost use Rattle.relations.specs.Rows as rows_spec;
 ghost use Rattle.records.specs.Record as format;
 ghost use Rattle.least_squares.specs.Lm as lm;
 ghost use Rattle.scene.specs.Solve as definitions;
-ghost use Rattle.scene.specs.Scene.{Laid, scene_of, poses_in};
+ghost use Rattle.scene.specs.Scene.{poses_in};
+ghost use Rattle.scene.specs.Sheet.{sheet_scene};
 ghost use Rattle.slopes.specs.Moved as spec;
 
 use crate::slopes::slope_of;
@@ -16,7 +17,7 @@ use judging::count::row_count;
 use records::record::rel_at;
 use relations::model::Rel;
 use relations::rows::Rows;
-use scene::scene::{Scene, names, pose_at, rel_rows_moved};
+use scene::scene::{Sheet, names, pose_at, rel_rows_moved};
 
 // The slopes from the rows ahead and the rows behind, to every n-th place from o on.
 fn put_slopes(s: &mut [f64], o: usize, n: usize, plus: Rows, minus: Rows, h: f64)
@@ -24,15 +25,8 @@ fn put_slopes(s: &mut [f64], o: usize, n: usize, plus: Rows, minus: Rows, h: f64
     requires by_index { (r : ℕ) → r < plus.n → o + r * n < length s.old }
     ensures { spec.Strided s.old s.new o n plus.n (λ r. lm.slope_of (get_or (rows_spec.rows_of plus) r nan) (get_or (rows_spec.rows_of minus) r nan) h) }
 {
-    let a = [
-        plus.r0, plus.r1, plus.r2, plus.r3, plus.r4, plus.r5, plus.r6,
-    ];
-    let b = [
-        minus.r0, minus.r1, minus.r2, minus.r3, minus.r4, minus.r5, minus.r6,
-    ];
-    let rows = plus.n;
-    for r in 0..rows {
-        s[o + r * n] = slope_of(a[r], b[r], h);
+    for r in 0..plus.n {
+        s[o + r * n] = slope_of(plus.values[r], minus.values[r], h);
     }
 }
 
@@ -107,8 +101,7 @@ fn named_rel(
 
 // The slopes of all relations' rows along body i's six unknowns, to the first six of every n places from o on, where these are +0. Each relation is read once.
 pub fn named_columns(
-    sheet: &[u8],
-    scene: Scene,
+    sheet: Sheet,
     s: &mut [f64],
     p: usize,
     i: usize,
@@ -117,21 +110,20 @@ pub fn named_columns(
     o: usize,
     n: usize,
 )
-    requires laid { Laid sheet.now scene }
-    requires room { spec.Room s.old moved.now p scene.m i o n scene.rows }
-    requires clear { spec.Clear s.old o n scene.rows }
+    requires room { spec.Room s.old moved.now p sheet.scene.m i o n sheet.scene.rows }
+    requires clear { spec.Clear s.old o n sheet.scene.rows }
     requires steps { spec.Steps steps }
-    ensures { spec.Block s.old s.new o n scene.rows 6 (spec.moved_slope (λ poses. definitions.all_rows poses (scene_of sheet.now scene).rels) (poses_in s.old p scene.m) i moved.now steps) }
+    ensures { spec.Block s.old s.new o n sheet.entry.scene.rows 6 (spec.moved_slope (λ poses. definitions.all_rows poses (sheet_scene sheet.entry).rels) (poses_in s.old p sheet.entry.scene.m) i moved.now steps) }
 {
-    let k = scene.k;
+    let k = sheet.scene.k;
     let mut row = 0;
     for j in 0..k {
         let count = named_rel(
-            sheet,
-            scene.rels + 264 * j,
+            sheet.bytes,
+            sheet.scene.rels + 264 * j,
             s,
             p,
-            scene.m,
+            sheet.scene.m,
             i,
             moved,
             steps,

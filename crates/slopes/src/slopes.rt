@@ -4,6 +4,7 @@ ghost use Rattle.std.specs.Prelude.{◌≡◌};
 ghost use Rattle.least_squares.specs.Lm as lm;
 
 // 1e-7 of the unknown's magnitude, itself at least 1.
+#[tactic(auto, unfolding(least_squares::specs::Lm::step_of))]
 pub fn step_of(x: f64) -> f64
     ensures { result ≡ lm.step_of x }
 {

@@ -5,26 +5,21 @@ use mathlib.Core.Path.{◌≡◌, refl, sym, ap, ◌∙◌}
 use mathlib.Core.List.{List, [], ◌∷◌, ◌++◌}
 use native.Mathlib.Omega.{arith}
 use native.Mathlib.Nat.{zero-mul, zero-add, suc-add, suc-le-suc_iff, not-suc-le-zero, mul-le-mul_right}
-use native.Mathlib.Decide.{dec_lt, ℕ_discrete}
-use lib.ListN.{length, get_or, set, take, length-append, length-set, get_or-append}
+use native.Mathlib.Decide.{dec_lt}
+use lib.ListN.{length, get_or, set, take, length-append, get_or-append}
 use lib.Seq.{length-take-le, get_or-take, get_or-append-add, get_or-set_same, get_or-set_other, set-append_left, take-set-lt}
-use lib.Ieee.{Float, nan, binary64, add, sub, mul}
+use lib.Ieee.{Float, nan, binary64}
 use mir.Val.{Val}
 use denote.Array.{Array, each}
 use denote.Floats.{FloatOf}
 use denote.Laws.{Is}
 use denote.Shadow.{shadow}
-use Rattle.eigen.specs.Eigen.{turn_pair, column}
-use Rattle.spans.specs.Flat.{flat_to, flat, at}
+use Rattle.eigen.specs.Eigen.{column}
+use Rattle.spans.specs.Flat.{flat_to, at}
 
 -- the entry ij set, and the entries ij and kl turned
 abbrev put : List (List Float) → ℕ → ℕ → Float → List (List Float)
 put m i j x = set m i (set (get_or m i []) j x)
-
-abbrev turn_entries : Float → Float → List (List Float) → ℕ → ℕ → ℕ → ℕ → List (List Float)
-turn_entries c s m i j k l =
-    put (put m i j (sub binary64 (mul binary64 c (at m i j)) (mul binary64 s (at m k l)))) k l
-    (add binary64 (mul binary64 s (at m i j)) (mul binary64 c (at m k l)))
 
 -- w rows of w entries
 pub record Grid (w : ℕ) (m : List (List Float)) : Type 0 where
@@ -88,21 +83,6 @@ module _ (n w : ℕ) (narrow : n ≤ w) (m : List (List Float)) (g : Grid w m) w
           let e : i ≡ k = omega arith in
           rw (e, flat_above n m k k (set (get_or m k []) j x) (omega arith), get_or-set_same m k (set (get_or m k []) j x) [] (omega (arith, g.rows)), take-set-lt n (get_or m k []) j x hj)
           (sym (rw (← length_flat k (omega arith)) (set_append_add (flat_to n m k) (take n (get_or m k [])) j x)))
-
-pub grid_put : (w : ℕ) (m : List (List Float)) → Grid w m → (i j : ℕ) (x : Float) → Grid w (put m i j x)
-grid_put w m g i j x = record { rows = length-set m i (set (get_or m i []) j x) ∙ g.rows; entries = λ k h. go k h (ℕ_discrete k i) }
-  where
-    go : (k : ℕ) → k < w → Dec (k ≡ i) → length (get_or (put m i j x) k []) ≡ w
-    go k h (yes e) =
-        rw (e, get_or-set_same m i (set (get_or m i []) j x) [] (omega (arith, g.rows)), length-set (get_or m i []) j x) (g.entries i (omega arith))
-    go k h (no e) = rw (get_or-set_other m i k (set (get_or m i []) j x) [] e) (g.entries k h)
-
--- a turn of two entries is a turn on the flat list
-module _ (n w : ℕ) (narrow : n ≤ w) (m : List (List Float)) (g : Grid w m) (i j k l : ℕ) (hi : i < n) (hj : j < n) (hk : k < n) (hl : l < n) (c s : Float) where
-  pub flat_turn : flat n (turn_entries c s m i j k l) ≡ turn_pair c s (flat n m) (i * n + j) (k * n + l)
-  flat_turn =
-      flat_put n w narrow (put m i j _) (grid_put w m g i j _) n k l _ narrow hk hl
-      ∙ rw (flat_put n w narrow m g n i j _ narrow hi hj, flat_at n w narrow m g n i j narrow hi hj, flat_at n w narrow m g n k l narrow hk hl)
 
 pub length_column : (n : ℕ) (v : List Float) (i k : ℕ) → length (column n v i k) ≡ k
 unfolding column

@@ -5,8 +5,8 @@ use mathlib.Core.Bool.{true, false, ◌&&◌}
 use mathlib.Core.List.{List, [], ◌∷◌, ◌++◌, map, map-append}
 use native.Mathlib.Omega.{arith}
 use native.Mathlib.Numerals.{add-one}
-use lib.ListN.{length, get_or, set, take, drop, replicate, length-append, length-map, length-take, get_or-map}
-use lib.Seq.{drop-cons, drop-length, take_at, length-take-le, get_or-take, take-suc}
+use lib.ListN.{length, drop_of_length-le, get_or, set, take, drop, replicate, length-append, length-map, length-take}
+use lib.Seq.{drop-cons, take_at, take-suc, take_all}
 use lib.Ieee.{Float, binary64, mul, lt, le}
 use lib.Dec.{ltb}
 use borrow.Author.Tests.{ltb-true}
@@ -18,36 +18,26 @@ use Rattle.vectors.specs.Vec.{Vec, vec, zero_v, sub_v, scale_v, dot, len, normal
 use Rattle.spans.specs.Span.{longest, without, join, joined, longer, span_basis}
 use Rattle.eigen.specs.Sort.{sort}
 use Rattle.spans.specs.Basis.{first, vec3, basis, basis_of, longer3, past3}
-use Rattle.eigen.proofs.Sorting.{fill_step, length_sort, sort_map}
+use Rattle.eigen.proofs.Sorting.{fill_step, sort_map}
 
--- the list from i on is its element at i and the list from i + 1 on
-next : (k : ℕ) (vs : List Vec3) (i : ℕ) → k ≤ length vs → i < k → drop i (first k vs) ≡ vec (get_or vs i past3) ∷ drop (i + 1) (first k vs)
-next k vs i h hi =
-    let n : length (first k vs) ≡ k = length-map (take k vs) vec ∙ length-take-le k vs h in
-    rw (add-one, drop-cons (first k vs) i (vec past3) (omega arith), get_or-map vec (take k vs) i past3, get_or-take k vs i past3 hi)
-
-none_left : (k : ℕ) (vs : List Vec3) (i : ℕ) → k ≤ length vs → i ≡ k → drop i (first k vs) ≡ []
-none_left k vs i h e =
-    let n : length (first k vs) ≡ i = length-map (take k vs) vec ∙ length-take-le k vs h ∙ sym e in
-    rw n at (drop-length (first k vs))
-
-module _ (k : ℕ) (vs : List Vec3) (fits : k ≤ length vs) (i : ℕ) where
-  pub longest_step : (m : Float) → i < k → longest (drop i (first k vs)) m ≡ longest (drop (i + 1) (first k vs)) (fmax m (len (vec (get_or vs i past3))))
+-- from i on: the element at i first, then those from i + 1 on; none at the end
+module _ (vs : List Vec3) (i : ℕ) where
+  pub longest_step : (m : Float) → i < length vs → longest (map vec (drop i vs)) m ≡ longest (map vec (drop (i + 1) vs)) (fmax m (len (vec (get_or vs i past3))))
   unfolding longest
-  longest_step m h = rw (next k vs i fits h)
+  longest_step m h = rw (add-one, drop-cons vs i past3 h)
 
-  pub longest_end : (m : Float) → i ≡ k → longest (drop i (first k vs)) m ≡ m
+  pub longest_end : (m : Float) → length vs ≤ i → longest (map vec (drop i vs)) m ≡ m
   unfolding longest
-  longest_end m e = rw (none_left k vs i fits e)
+  longest_end m h = rw (drop_of_length-le vs h)
 
-  pub without_step : (u s r : Vec Float) (t : Float) → i < k → t ≡ dot doubles u (vec (get_or vs i past3)) → s ≡ scale_v doubles (vec (get_or vs i past3)) t → r ≡ sub_v doubles u s
-      → without u (drop i (first k vs)) ≡ without r (drop (i + 1) (first k vs))
+  pub without_step : (u s r : Vec Float) (t : Float) → i < length vs → t ≡ dot doubles u (vec (get_or vs i past3)) → s ≡ scale_v doubles (vec (get_or vs i past3)) t → r ≡ sub_v doubles u s
+      → without u (map vec (drop i vs)) ≡ without r (map vec (drop (i + 1) vs))
   unfolding without
-  without_step u s r t h e f g = rw (next k vs i fits h, g, f, e)
+  without_step u s r t h e f g = rw (add-one, drop-cons vs i past3 h, g, f, e)
 
-  pub without_end : (u : Vec Float) → i ≡ k → without u (drop i (first k vs)) ≡ u
+  pub without_end : (u : Vec Float) → length vs ≤ i → without u (map vec (drop i vs)) ≡ u
   unfolding without
-  without_end u e = rw (none_left k vs i fits e)
+  without_end u h = rw (drop_of_length-le vs h)
 
 -- ---- the basis grows
 
@@ -124,9 +114,8 @@ pub span_none : (vs : List (Vec Float)) (rel most : Float) → most ≡ longest 
 unfolding span_basis
 span_none vs rel most e f = rw (rw e at f)
 
-pub span_some : (k : ℕ) (vs rest : List Vec3) (rel most : Float) (out : Basis) → k ≤ length vs → most ≡ longest (first k vs) zero64 → le most zero64 ≡ false
-    → rest ≡ sort longer3 (take k vs) ++ drop k vs → out ≡ basis_of (joined (mul binary64 rel most) [] (first k rest)) → out ≡ basis_of (span_basis (first k vs) rel)
+pub span_some : (vs rest : List Vec3) (rel most : Float) (out : Basis) (i : ℕ) → most ≡ longest (map vec vs) zero64 → le most zero64 ≡ false
+    → rest ≡ sort longer3 vs → length rest ≤ i → out ≡ basis_of (joined (mul binary64 rel most) [] (first i rest)) → out ≡ basis_of (span_basis (map vec vs) rel)
 unfolding span_basis
-span_some k vs rest rel most out h e f g o =
-    let n : length (sort longer3 (take k vs)) ≡ k = length_sort longer3 past3 (take k vs) ∙ length-take-le k vs h in
-    rw (rw e at f, o, g, take_at (sort longer3 (take k vs)) (drop k vs) k n, sort_map longer3 longer vec (λ x y. refl) (take k vs), e)
+span_some vs rest rel most out i e f g h o =
+    rw (rw e at f, o, take_all i rest h, g, sort_map longer3 longer vec (λ x y. refl) vs, e)

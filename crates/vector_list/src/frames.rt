@@ -4,7 +4,7 @@ use lists::list::word;
 use lists::vector::{same_vector, vector};
 use std::io::Read;
 use vectors::math::M3;
-use vectors::space::{Frame, NewFrame};
+use vectors::space::Frame;
 use vectors::vec::Vec3;
 
 pub fn matrix(file: &mut impl Read) -> M3 {
@@ -15,10 +15,7 @@ pub fn matrix(file: &mut impl Read) -> M3 {
 }
 
 pub fn same_matrix(file: &mut impl Read, m: M3) -> bool {
-    let r0 = m.r0;
-    let r1 = m.r1;
-    let r2 = m.r2;
-    same_vector(file, r0) & same_vector(file, r1) & same_vector(file, r2)
+    same_vector(file, m.r0) & same_vector(file, m.r1) & same_vector(file, m.r2)
 }
 
 fn same_axes(file: &mut impl Read, origin: Vec3, x: Vec3, y: Vec3, z: Vec3) -> bool {
@@ -26,19 +23,14 @@ fn same_axes(file: &mut impl Read, origin: Vec3, x: Vec3, y: Vec3, z: Vec3) -> b
 }
 
 fn same_made(file: &mut impl Read, f: Frame) -> bool {
-    let origin = f.origin;
-    let x = f.x;
-    let y = f.y;
-    let z = f.z;
-    same_axes(file, origin, x, y, z)
+    same_axes(file, f.origin, f.x, f.y, f.z)
 }
 
 // 1 and the frame, or 0 for none, which twelve words of 0 follow.
-pub fn same_frame(file: &mut impl Read, f: NewFrame) -> bool {
+pub fn same_frame(file: &mut impl Read, f: Option<Frame>) -> bool {
     let present = word(file);
     match f {
-        NewFrame::Made(f) => same_made(file, f) & (present == 1),
-        NewFrame::Nothing => same_axes(file, Vec3::ZERO, Vec3::ZERO, Vec3::ZERO, Vec3::ZERO)
-            & (present == 0),
+        Some(f) => same_made(file, f) & (present == 1),
+        None => same_axes(file, Vec3::ZERO, Vec3::ZERO, Vec3::ZERO, Vec3::ZERO) & (present == 0),
     }
 }

@@ -6,24 +6,12 @@
 mod frames;
 
 use frames::{matrix, same_frame, same_matrix};
-use lists::answers::counted;
-use lists::list;
+use lists::list::replay;
 use lists::vector::vector;
 use std::io;
 use std::io::Read;
-use std::rt::Files;
 use vectors::math::{M3, frame_of, rotation_between};
 use vectors::space::Frame;
-
-#[derive(Clone, Copy)]
-enum List {
-    Exp,
-    Mul,
-    RotationBetween,
-    New,
-    FromNormal,
-    FrameOf,
-}
 
 fn exp(file: &mut impl Read) -> bool {
     let w = vector(file);
@@ -61,33 +49,11 @@ fn of(file: &mut impl Read) -> bool {
     same_frame(file, frame_of(m, origin))
 }
 
-// Whether the next record has the answer that is found here.
-fn record(file: &mut impl Read, k: List) -> bool {
-    match k {
-        List::Exp => exp(file),
-        List::Mul => mul(file),
-        List::RotationBetween => between(file),
-        List::New => new(file),
-        List::FromNormal => from_normal(file),
-        List::FrameOf => of(file),
-    }
-}
-
-fn replay(rt: &(impl Files + Print + Eprint), path: &str, k: List) -> io::Result<()> {
-    let mut file = list::open(rt, path.as_bytes())?;
-    let n = list::count(&mut file);
-    let mut wrong = 0u64;
-    for i in 0..n {
-        wrong = counted(wrong, record(&mut file, k));
-    }
-    list::close(rt, path.as_bytes(), file, n, wrong)
-}
-
 fn main(rt: HostRuntime) -> io::Result<()> {
-    replay(&rt, "exp.bin", List::Exp)?;
-    replay(&rt, "m3_mul.bin", List::Mul)?;
-    replay(&rt, "rotation_between.bin", List::RotationBetween)?;
-    replay(&rt, "frame_new.bin", List::New)?;
-    replay(&rt, "from_normal.bin", List::FromNormal)?;
-    replay(&rt, "frame_of.bin", List::FrameOf)
+    replay(&rt, "exp.bin", exp)?;
+    replay(&rt, "m3_mul.bin", mul)?;
+    replay(&rt, "rotation_between.bin", between)?;
+    replay(&rt, "frame_new.bin", new)?;
+    replay(&rt, "from_normal.bin", from_normal)?;
+    replay(&rt, "frame_of.bin", of)
 }

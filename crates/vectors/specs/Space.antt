@@ -1,13 +1,12 @@
 -- `Frame` of space.rs. Document 01, "The train of files", item 2. Definitions only; `Axis` and `Aabb3` are left out.
-use Rattle.std.specs.Prelude.{not, ◌||◌, cond, Float}
+use Rattle.std.specs.Prelude.{not, ◌||◌, cond, Float, Some, None}
+use Rattle.std.specs.Prelude.{Option as MaybeOf}
 use Rattle.std.proofs.Math.Option.{Option, none, some}
 use Rattle.std.specs.Float.{binary64}
 use Rattle.std.specs.Float.Ieee.{lt, le, of_bits}
 use Rattle.numbers.specs.Ops.{doubles}
 use Rattle.numbers.specs.Double.{abs}
 use Rattle.vectors.specs.declared.space.Frame.{Frame as FrameStruct}
-use Rattle.vectors.specs.declared.space.NewFrame.{NewFrame}
-use Rattle.vectors.specs.declared.space.NewFrame.TheVariants.{Made, Nothing}
 use Rattle.vectors.specs.Tol.{LINEAR}
 use Rattle.vectors.specs.Vec.{Vec, vec, zero_v, x_v, y_v, z_v, sub_v, scale_v, dot, cross, len, normalized, is_finite_v}
 
@@ -22,9 +21,9 @@ abbrev pub frame : FrameStruct → Frame
 frame f = record { origin = vec f.origin; x = vec f.x; y = vec f.y; z = vec f.z }
 
 -- what `Frame::new` answers: a frame or none
-abbrev pub made : NewFrame → Option Frame
-made (Made f) = some (frame f)
-made Nothing = none
+abbrev pub made : MaybeOf FrameStruct → Option Frame
+made (Some f) = some (frame f)
+made None = none
 
 -- Frame::WORLD
 abbrev pub world : Frame

@@ -5,7 +5,7 @@ ghost use Rattle.vectors.specs.Vec.{vec};
 ghost use Rattle.vectors.specs.Space.{frame, made};
 ghost use Rattle.vectors.specs.Math as spec;
 
-use crate::space::{Frame, NewFrame};
+use crate::space::Frame;
 use crate::vec::Vec3;
 
 const PI: f64 = 3.141592653589793;
@@ -29,10 +29,7 @@ impl M3 {
     pub fn of_frame(f: Frame) -> M3
         ensures { spec.mat result ≡ spec.of_frame (frame f) }
     {
-        let x = f.x;
-        let y = f.y;
-        let z = f.z;
-        M3::from_columns(x, y, z)
+        M3::from_columns(f.x, f.y, f.z)
     }
 
     pub fn from_columns(x: Vec3, y: Vec3, z: Vec3) -> M3
@@ -58,6 +55,7 @@ impl M3 {
     }
 
     // The column `i`, the last for any `i` above 1.
+    #[tactic(auto, unfolding(crate::specs::Math::col))]
     pub fn col(self, i: usize) -> Vec3
         ensures { vec result ≡ spec.col (spec.mat self) i }
     {
@@ -81,13 +79,10 @@ impl M3 {
     pub fn mul(self, o: M3) -> M3
         ensures { spec.mat result ≡ spec.mul_m (spec.mat self) (spec.mat o) }
     {
-        let r0 = self.r0;
-        let r1 = self.r1;
-        let r2 = self.r2;
         M3 {
-            r0: row_mul(r0, o),
-            r1: row_mul(r1, o),
-            r2: row_mul(r2, o),
+            r0: row_mul(self.r0, o),
+            r1: row_mul(self.r1, o),
+            r2: row_mul(self.r2, o),
         }
     }
 
@@ -114,6 +109,7 @@ impl M3 {
     }
 
     // The rotation `|w|` radians about `w` (Rodrigues).
+    #[tactic(auto, unfolding(crate::specs::Math::exp))]
     pub fn exp(w: Vec3) -> M3
         ensures { spec.mat result ≡ spec.exp (vec w) }
     {
@@ -121,7 +117,7 @@ impl M3 {
         if t < 1e-12 {
             return linear(w);
         }
-        let k = w.scale(1.0 / t);
+        let k = w * (1.0 / t);
         let a = arcs::arc::sine_cosine(t);
         rodrigues(k, a.sine, a.cosine, 1.0 - a.cosine)
     }
@@ -194,10 +190,11 @@ fn half_turn(from: Vec3) -> M3
         Vec3::Y
     };
     let axis = from.cross(p).normalized();
-    M3::exp(axis.scale(PI))
+    M3::exp(axis * PI)
 }
 
 // The smallest rotation taking unit `from` to unit `to` (half a turn about a perpendicular when they are opposite).
+#[tactic(auto, unfolding(crate::specs::Math::rotation_between))]
 pub fn rotation_between(from: Vec3, to: Vec3) -> M3
     ensures { spec.mat result ≡ spec.rotation_between (vec from) (vec to) }
 {
@@ -209,11 +206,12 @@ pub fn rotation_between(from: Vec3, to: Vec3) -> M3
         }
         return half_turn(from);
     }
-    M3::exp(c.normalized().scale(arcs::arc::arctangent(c.len(), d)))
+    M3::exp(c.normalized() * arcs::arc::arctangent(c.len(), d))
 }
 
 // A frame from a rotation and an origin (the rotation's columns are made orthonormal again).
-pub fn frame_of(r: M3, origin: Vec3) -> NewFrame
+#[tactic(auto, unfolding(crate::specs::Math::col))]
+pub fn frame_of(r: M3, origin: Vec3) -> Option<Frame>
     ensures { made result ≡ spec.frame_of (spec.mat r) (vec origin) }
 {
     Frame::new(origin, r.col(2), r.col(0))

@@ -15,13 +15,6 @@ pub struct Frame {
     pub z: Vec3,
 }
 
-// A frame, or none.
-#[derive(Clone, Copy)]
-pub enum NewFrame {
-    Made(Frame),
-    Nothing,
-}
-
 impl Frame {
     // The world frame.
     pub const WORLD: Frame = Frame {
@@ -32,28 +25,21 @@ impl Frame {
     };
 
     // Frame at `origin` with normal `z`; X is `x_hint` made perpendicular to Z (Gram-Schmidt).
-    // Nothing when the inputs are not finite, `z` is no longer than LINEAR, or what remains of `x_hint` is not.
-    pub fn new(origin: Vec3, z: Vec3, x_hint: Vec3) -> NewFrame
+    // None when the inputs are not finite, `z` is no longer than LINEAR, or what remains of `x_hint` is not.
+    #[tactic(auto, unfolding(crate::specs::Space::new_frame))]
+    pub fn new(origin: Vec3, z: Vec3, x_hint: Vec3) -> Option<Frame>
         ensures { spec.made result ≡ spec.new_frame (vec origin) (vec z) (vec x_hint) }
     {
-        if !origin.is_finite() {
-            return NewFrame::Nothing;
-        }
-        if !z.is_finite() {
-            return NewFrame::Nothing;
-        }
-        if !x_hint.is_finite() {
-            return NewFrame::Nothing;
-        }
-        if z.len() <= tol::LINEAR {
-            return NewFrame::Nothing;
+        if !(origin.is_finite() && z.is_finite() && x_hint.is_finite()) || z.len() <= tol::LINEAR {
+            return None;
         }
         let zn = z.normalized();
         squared(origin, zn, remaining(zn, x_hint))
     }
 
     // Frame at `origin` with normal `z` and a fixed X direction: world X made perpendicular to Z, or world Y when `z` is close to world X.
-    pub fn from_normal(origin: Vec3, z: Vec3) -> NewFrame
+    #[tactic(auto, unfolding(crate::specs::Space::from_normal))]
+    pub fn from_normal(origin: Vec3, z: Vec3) -> Option<Frame>
         ensures { spec.made result ≡ spec.from_normal (vec origin) (vec z) }
     {
         let zn = z.normalized();
@@ -69,18 +55,18 @@ impl Frame {
 fn remaining(z: Vec3, hint: Vec3) -> Vec3
     ensures { vec result ≡ spec.remaining (vec z) (vec hint) }
 {
-    hint.sub(z.scale(hint.dot(z)))
+    hint - z * hint.dot(z)
 }
 
 // The frame with the unit `z` and the direction of `x`, which is perpendicular to it.
-fn squared(origin: Vec3, z: Vec3, x: Vec3) -> NewFrame
+fn squared(origin: Vec3, z: Vec3, x: Vec3) -> Option<Frame>
     ensures { spec.made result ≡ spec.squared (vec origin) (vec z) (vec x) }
 {
     if x.len() <= tol::LINEAR {
-        return NewFrame::Nothing;
+        return None;
     }
     let xn = x.normalized();
-    NewFrame::Made(Frame {
+    Some(Frame {
         origin,
         x: xn,
         y: z.cross(xn),

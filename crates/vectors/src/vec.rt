@@ -1,9 +1,10 @@
-// `Vec3` of vec.rs. The operators of the Rust are methods here. `specs/Vec.antt` has the definitions.
+// `Vec3` of vec.rs with its operators. `specs/Vec.antt` has the definitions.
 ghost use Rattle.std.specs.Prelude.{◌≡◌};
 ghost use Rattle.numbers.specs.Ops.{doubles};
 ghost use Rattle.vectors.specs.Vec as spec;
 
 use crate::{root, tol};
+use std::ops::{Add, Mul, Neg, Sub};
 
 #[derive(Clone, Copy)]
 pub struct Vec3 {
@@ -59,6 +60,7 @@ impl Vec3 {
         }
     }
 
+    #[tactic(auto, unfolding(crate::specs::Vec::len))]
     pub fn len(self) -> f64
         ensures { result ≡ spec.len (spec.vec self) }
     {
@@ -66,57 +68,75 @@ impl Vec3 {
     }
 
     // The unit vector of the same direction, or zero unless the length is above EPS.
+    #[tactic(auto, unfolding(crate::specs::Vec::normalized))]
     pub fn normalized(self) -> Vec3
         ensures { spec.vec result ≡ spec.normalized (spec.vec self) }
     {
         let l = self.len();
         if l > tol::EPS {
-            self.scale(1.0 / l)
+            self * (1.0 / l)
         } else {
             Vec3::ZERO
         }
     }
 
+    #[tactic(auto, unfolding(crate::specs::Vec::is_finite_v))]
     pub fn is_finite(self) -> bool
         ensures { result ≡ spec.is_finite_v (spec.vec self) }
     {
-        numbers::is_finite(self.x) && (numbers::is_finite(self.y) && numbers::is_finite(self.z))
+        numbers::is_finite(self.x) && numbers::is_finite(self.y) && numbers::is_finite(self.z)
     }
+}
 
-    pub fn add(self, o: Vec3) -> Vec3
-        ensures { spec.vec result ≡ spec.add_v doubles (spec.vec self) (spec.vec o) }
-    {
+impl Add for Vec3 {
+    type Output = Vec3;
+
+    ghost add_gives = { λ a b r. spec.vec r ≡ spec.add_v doubles (spec.vec a) (spec.vec b) };
+
+    fn add(self, o: Vec3) -> Vec3 {
         Vec3 {
             x: self.x + o.x,
             y: self.y + o.y,
             z: self.z + o.z,
         }
     }
+}
 
-    pub fn sub(self, o: Vec3) -> Vec3
-        ensures { spec.vec result ≡ spec.sub_v doubles (spec.vec self) (spec.vec o) }
-    {
+impl Sub for Vec3 {
+    type Output = Vec3;
+
+    ghost sub_gives = { λ a b r. spec.vec r ≡ spec.sub_v doubles (spec.vec a) (spec.vec b) };
+
+    fn sub(self, o: Vec3) -> Vec3 {
         Vec3 {
             x: self.x - o.x,
             y: self.y - o.y,
             z: self.z - o.z,
         }
     }
+}
 
-    // Each number times `s`.
-    pub fn scale(self, s: f64) -> Vec3
-        ensures { spec.vec result ≡ spec.scale_v doubles (spec.vec self) s }
-    {
+// Each number times `s`.
+impl Mul<f64> for Vec3 {
+    type Output = Vec3;
+
+    ghost mul_gives = { λ a s r. spec.vec r ≡ spec.scale_v doubles (spec.vec a) s };
+
+    fn mul(self, s: f64) -> Vec3 {
         Vec3 {
             x: self.x * s,
             y: self.y * s,
             z: self.z * s,
         }
     }
+}
 
-    pub fn neg(self) -> Vec3
-        ensures { spec.vec result ≡ spec.neg_v doubles (spec.vec self) }
-    {
+impl Neg for Vec3 {
+    type Output = Vec3;
+
+    ghost neg_gives = { λ a r. spec.vec r ≡ spec.neg_v doubles (spec.vec a) };
+
+    fn neg(self) -> Vec3 {
         Vec3 {
             x: -self.x,
             y: -self.y,

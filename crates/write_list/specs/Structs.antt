@@ -5,7 +5,7 @@ use Rattle.std.specs.Float.{binary64}
 use Rattle.std.specs.Float.Ieee.{of_bits}
 use Rattle.vectors.specs.declared.vec.Vec3.{Vec3}
 use Rattle.relations.specs.declared.model.Body.{Body}
-use Rattle.relations.specs.declared.model.BodyRef.TheVariants.{Ground}
+use Rattle.std.specs.Prelude.{None}
 use Rattle.relations.specs.declared.geometry.Primitive.TheVariants.{Point}
 use Rattle.relations.specs.declared.model.End.{End}
 use Rattle.relations.specs.declared.model.Law.TheVariants.{Mate}
@@ -30,7 +30,7 @@ body =
     }
 
 abbrev ground_pose : End
-ground_pose = record { body = Ground; prim = Point (vector 0 0 0); radius = of_bits binary64 0; mirrored = false }
+ground_pose = record { body = None; prim = Point (vector 0 0 0); radius = of_bits binary64 0; mirrored = false }
 
 abbrev mate : Rel
 mate = record { law = Mate (of_bits binary64 0); a = ground_pose; b = ground_pose }

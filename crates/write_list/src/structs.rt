@@ -3,9 +3,10 @@
 ghost use Rattle.std.specs.Prelude.{◌+◌, ◌*◌, ◌≤◌, length, ◌≡◌};
 ghost use Rattle.write_list.specs.Structs as spec;
 
+use faults::fault::number_of;
 use records::record::{body_at, rel_at};
 use relations::geometry::Primitive;
-use relations::model::{Body, BodyRef, End, Law, Rel};
+use relations::model::{Body, End, Law, Rel};
 use saving::save::{Scene, save};
 use vectors::space::Frame;
 use vectors::vec::Vec3;
@@ -19,7 +20,7 @@ const BODY: Body = Body {
 
 // A point on the ground.
 const GROUND: End = End {
-    body: BodyRef::Ground,
+    body: None,
     prim: Primitive::Point(Vec3::ZERO),
     radius: 0.0,
     mirrored: false,
@@ -48,11 +49,8 @@ fn with_bodies(scene: Scene, s: &[u8], m: usize) -> Scene
     requires m_in_bounds { 24 + 136 * m ≤ length s.now }
 {
     let mut read = scene;
-    let mut i = 0;
-    while i < m {
-        let b = body_at(s, 24 + 136 * i);
-        read.bodies[i] = b;
-        i += 1;
+    for i in 0..m {
+        read.bodies[i] = body_at(s, 24 + 136 * i);
     }
     read
 }
@@ -63,11 +61,8 @@ fn with_rels(scene: Scene, s: &[u8], m: usize, k: usize) -> Scene
     requires k_in_bounds { 24 + 136 * m + 264 * k ≤ length s.now }
 {
     let mut read = scene;
-    let mut j = 0;
-    while j < k {
-        let r = rel_at(s, 24 + 136 * m + 264 * j);
-        read.rels[j] = r;
-        j += 1;
+    for j in 0..k {
+        read.rels[j] = rel_at(s, 24 + 136 * m + 264 * j);
     }
     read
 }
@@ -81,5 +76,5 @@ pub fn saved_again(s: &[u8], m: usize, k: usize, out: &mut [u8]) -> u32
     let empty = plain(m, k);
     let bodies = with_bodies(empty, s, m);
     let scene = with_rels(bodies, s, m, k);
-    save(scene, out)
+    number_of(save(scene, out))
 }

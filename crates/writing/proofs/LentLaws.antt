@@ -2,32 +2,30 @@
 use mathlib.Core.Path.{◌≡◌, refl, sym, ap, ◌∙◌}
 use mathlib.Core.Bool.{Bool, true, false, ◌&&◌, cond}
 use mathlib.Core.List.{List, ◌++◌, append-nil}
-use Prim.Native.Nat.{ℕ, ◌+◌, ◌-◌, ◌*◌, ◌≤◌, ◌<◌}
+use Prim.Native.Nat.{ℕ, ◌+◌, ◌*◌, ◌≤◌, ◌<◌}
 use native.Mathlib.Omega.{arith}
-use native.Mathlib.Numerals.{add-one}
 use native.Mathlib.Nat.{min-le_left}
 use lib.ListN.{length, get_or, take, drop, length-take, drop_of_length-le, get_or-eq_default}
 use lib.Seq.{get_or-take, get_or-drop, take_at}
 use lib.Dec.{T, leb, ltb}
 use lib.Ieee.{Float, nan, binary64, fits}
 use borrow.Author.Tests.{leb-true, ltb-true, ltb-false, ne_eqb}
+use Rattle.faults.specs.declared.fault.Fault.{Fault}
+use Rattle.faults.specs.Fault.{number}
+use Rattle.faults.proofs.FaultLaws.{number_nonzero}
 use Rattle.format.specs.Format.{rel_start}
-use Rattle.format.specs.Faults.{or_else, unless}
-use Rattle.format.proofs.RefusalLaws.{none_of, and_left, and_right, first, later}
+use Rattle.format.specs.Faults.{unless}
+use Rattle.format.proofs.RefusalLaws.{FirstOf, none_of, and_left, and_right}
 use Rattle.writing.specs.Bytes.{part, Put}
-use Rattle.writing.specs.Writing.{AllBytes, AllWords, AllDoubles, SceneIs, OneSheet, sheet_bytes, body_parts_fault, rel_parts_fault, first_fault, counts_fault, records_fault, room_fault}
+use Rattle.writing.specs.Writing.{AllBytes, AllWords, AllDoubles, SceneIs, OneSheet, sheet_bytes, first_fault, counts_fault, records_fault, room_fault}
 use Rattle.writing.proofs.NumberLaws.{part_length}
 use Rattle.writing.specs.Structs.{SolverReads}
 use Rattle.writing.proofs.SheetLaws.{counts_pass, sheet_length}
 use Rattle.writing.proofs.OneSheetLaws.{one_sheet}
 use Rattle.writing.proofs.StructLaws.{solver_reads}
-use Rattle.writing.specs.Lent.{lent_body, lent_rel, lent_scene, lent_fault, lent_scene_fault, write_fault, WriteAnswer}
+use Rattle.writing.specs.Lent.{lent_scene, lent_fault, lent_scene_fault, write_fault, WriteAnswer}
 
 -- ---- a part of what is lent
-
--- the elements from o up to o + n
-pub part_is : {A : Type 0} (l : List A) (o n e : ℕ) → e ≡ o + n → take (e - o) (drop o l) ≡ part l o n
-part_is l o n e h = let d : e - o ≡ n = omega arith in ap (λ (w : ℕ). take w (drop o l)) d
 
 -- ---- a record's own memory
 
@@ -35,11 +33,11 @@ part_is l o n e h = let d : e - o ≡ n = omega arith in ap (λ (w : ℕ). take 
 pub put_all : (s t : List ℕ) (r : ℕ) (l : List ℕ) → length s ≤ r → Put s t 0 r l → t ≡ l
 put_all s t r l h p = p.text ∙ ap (λ (w : List ℕ). l ++ w) (drop_of_length-le s h) ∙ append-nil l
 
--- ---- one record more
+-- ---- tests in a row
 
-pub first_more : (fault : ℕ → ℕ) (i f g w : ℕ) → f ≡ first_fault fault i → g ≡ fault i → w ≡ or_else f g → w ≡ first_fault fault (i + 1)
+pub first_in_row : (fault : ℕ → ℕ) → FirstOf fault (first_fault fault)
 unfolding first_fault
-first_more fault i f g w p q e = rw (e, p, q, add-one i)
+first_in_row fault = record { none_yet = refl; more = λ n. refl }
 
 -- ---- what a test that passes says
 
@@ -108,25 +106,6 @@ lent_is m k bytes words numbers b w x all =
 -- ---- one test after another
 
 module _ (m k : ℕ) (bytes words : List ℕ) (numbers : List Float) where
-  pub records_then : (f b r w : ℕ) → f ≡ lent_fault m k (length bytes) (length words) (length numbers) → f ≡ 0
-      → b ≡ first_fault (λ i. body_parts_fault (lent_body bytes numbers i)) m → r ≡ first_fault (λ j. rel_parts_fault m (lent_rel m bytes words numbers j)) k → w ≡ or_else b r
-      → w ≡ lent_scene_fault m k bytes words numbers
-  unfolding lent_scene_fault records_fault
-  records_then f b r w p z q s e = later _ (lent_fault m k (length bytes) (length words) (length numbers)) _ f w refl p z (rw (e, q, s))
-
-  pub lent_stops : (f : ℕ) → f ≡ lent_fault m k (length bytes) (length words) (length numbers) → (f ≡ 0 → ⊥) → f ≡ lent_scene_fault m k bytes words numbers
-  unfolding lent_scene_fault
-  lent_stops f p ne = first _ (lent_fault m k (length bytes) (length words) (length numbers)) _ f refl p ne
-
-  pub room_then : (room f s r w : ℕ) → f ≡ counts_fault m k → f ≡ 0 → s ≡ lent_scene_fault m k bytes words numbers → r ≡ room_fault m k room → w ≡ or_else s r
-      → w ≡ write_fault m k bytes words numbers room
-  unfolding write_fault
-  room_then room f s r w p z q h e = later _ (counts_fault m k) _ f w refl p z (rw (e, q, h))
-
-  pub counts_stop : (room f : ℕ) → f ≡ counts_fault m k → (f ≡ 0 → ⊥) → f ≡ write_fault m k bytes words numbers room
-  unfolding write_fault
-  counts_stop room f p ne = first _ (counts_fault m k) _ f refl p ne
-
   -- a call that is accepted
   pub record Accepted (room : ℕ) : Type 0 where
     pub counts : counts_fault m k ≡ 0
@@ -137,10 +116,10 @@ module _ (m k : ℕ) (bytes words : List ℕ) (numbers : List Float) where
     pub whole : Whole m k (length bytes) (length words) (length numbers)
     pub room_is : rel_start m k ≤ room
 
-  pub accepted : (room n : ℕ) → n ≡ write_fault m k bytes words numbers room → n ≡ 0 → Accepted room
+  pub accepted : (room : ℕ) → 0 ≡ write_fault m k bytes words numbers room → Accepted room
   unfolding write_fault lent_scene_fault
-  accepted room n e z =
-      let p = none_of (counts_fault m k) _ (sym e ∙ z) in
+  accepted room e =
+      let p = none_of (counts_fault m k) _ (sym e) in
       let q = none_of (lent_scene_fault m k bytes words numbers) (room_fault m k room) p.1 in
       let r = none_of (lent_fault m k (length bytes) (length words) (length numbers)) (records_fault (lent_scene m k bytes words numbers)) q.0 in
       record {
@@ -167,20 +146,22 @@ module _ (m k : ℕ) (bytes words : List ℕ) (numbers : List Float) where
         let there = (once a.counts a.lent).there a.records in
         rw (e, take_at (sheet_bytes sc) rest (rel_start m k) (sheet_length sc)) (solver_reads sc (sheet_bytes sc) there)
 
-    pub written : (sheet sheet' : List ℕ) (n q : ℕ) → n ≡ write_fault m k bytes words numbers (length sheet) → n ≡ 0 → q ≡ rel_start m k
+    pub written : (sheet sheet' : List ℕ) (q : ℕ) → 0 ≡ write_fault m k bytes words numbers (length sheet) → q ≡ rel_start m k
         → Put sheet sheet' 0 q (sheet_bytes (lent_scene m k bytes words numbers)) → WriteAnswer m k bytes words numbers 0 sheet sheet'
-    written sheet sheet' n q p z e put =
-        record {
-          number = sym z ∙ p;
-          sheet_is = put.text ∙ ap (λ (o : ℕ). sheet_bytes (lent_scene m k bytes words numbers) ++ drop o sheet) e;
-          one_sheet = once;
-          solver_reads = λ o. in_place sheet' (drop q sheet) put.text (length sheet) (accepted (length sheet) n p z);
-        }
-
-    pub refused : (sheet : List ℕ) (n : ℕ) → n ≡ write_fault m k bytes words numbers (length sheet) → (n ≡ 0 → ⊥) → WriteAnswer m k bytes words numbers n sheet sheet
-    refused sheet n p ne =
+    written sheet sheet' q p e put =
         record {
           number = p;
+          sheet_is = put.text ∙ ap (λ (o : ℕ). sheet_bytes (lent_scene m k bytes words numbers) ++ drop o sheet) e;
+          one_sheet = once;
+          solver_reads = λ o. in_place sheet' (drop q sheet) put.text (length sheet) (accepted (length sheet) p);
+        }
+
+    pub refused : (sheet : List ℕ) (n : ℕ) (f : Fault) → n ≡ number f → number f ≡ write_fault m k bytes words numbers (length sheet)
+        → WriteAnswer m k bytes words numbers n sheet sheet
+    refused sheet n f e p =
+        let ne : n ≡ 0 → ⊥ = λ z. number_nonzero f (sym e ∙ z) in
+        record {
+          number = e ∙ p;
           sheet_is = sym (ap (λ (t : Bool). cond t (sheet_bytes (lent_scene m k bytes words numbers) ++ drop (rel_start m k) sheet) sheet) (ne_eqb n 0 ne));
           one_sheet = once;
           solver_reads = λ z. absurd (ne z);

@@ -1,12 +1,14 @@
 -- Bytes put to memory one piece after another. By the library's laws on `take`, `drop` and `set`. Assumes nothing.
 use mathlib.Core.Path.{◌≡◌, refl, sym, ap, subst, ◌∙◌}
-use mathlib.Core.List.{List, [], ◌∷◌, ◌++◌, append-nil, append_assoc}
-use Prim.Native.Nat.{ℕ, zero, suc, ◌+◌, ◌-◌, ◌*◌, ◌/◌, ◌%◌, ◌≤◌, ◌<◌}
+use mathlib.Core.List.{List, [], ◌∷◌, ◌++◌, append_assoc}
+use Prim.Native.Nat.{ℕ, zero, suc, ◌+◌, ◌*◌, ◌/◌, ◌^◌, ◌≤◌, ◌<◌}
 use native.Mathlib.Omega.{arith}
 use native.Mathlib.Numerals.{add-one}
 use native.Mathlib.Nat.{mul-suc}
 use lib.ListN.{length, get_or, set, take, drop, length-drop, length-append, take-append-drop}
-use lib.Seq.{length-take-le, take_at, drop_at, take-append-le, take-take, drop-drop, take-suc, take_all, set_split}
+use lib.Seq.{length-take-le, take_at, drop_at, take-append-le, take-take, drop-drop, take-suc, set_split}
+use native.Mathlib.Nat.{div-one, pow-suc, div-div-eq-div-mul}
+use Rattle.std.specs.Int.{w64, byte_at, bytes_low_first, to_le_bytes}
 use Rattle.writing.specs.Bytes.{little_endian, joined, Put}
 
 -- ---- one piece after another
@@ -100,38 +102,25 @@ put_more s t o i l h p k =
 pub put_start : (s : List ℕ) (o : ℕ) (l : List ℕ) → o ≤ length s → Put s s o (o + 0) (take 0 l)
 put_start s o l h = let e : o ≡ o + 0 = omega arith in subst (λ (w : ℕ). Put s s o w []) e (put_nothing s o h)
 
-pub put_whole : (s t : List ℕ) (o i : ℕ) (l : List ℕ) → i ≡ length l → Put s t o (o + i) (take i l) → Put s t o (o + i) l
-put_whole s t o i l e p = subst (λ (w : List ℕ). Put s t o (o + i) w) (take_all i l (omega arith)) p
-
 -- ---- a number, from its lowest byte on
 
--- the bytes so far stand before those of `rest` that are to come
-pub record Begun (k n : ℕ) (s t : List ℕ) (o next left rest : ℕ) : Type 0 where
-  pub done : List ℕ
-  pub whole : done ++ little_endian left rest ≡ little_endian k n
-  pub put : Put s t o next done
-
-pub begun_start : (k n : ℕ) (s : List ℕ) (o : ℕ) → o ≤ length s → Begun k n s s o o k n
-begun_start k n s o h = record { done = []; whole = refl; put = put_nothing s o h }
-
-pub begun_step : (k n : ℕ) (s t u : List ℕ) (o next q left rest b : ℕ) → 0 < left → Put t u next q (b ∷ [])
-    → b ≡ rest % 256 → Begun k n s t o next left rest → Begun k n s u o q (left - 1) (rest / 256)
+-- byte i of n, counted from the lowest, and those above it
+low_first : (k i n : ℕ) → bytes_low_first i k n ≡ little_endian k (n / 256 ^ i)
 unfolding little_endian
-begun_step k n s t u o next q zero rest b h y e p = absurd (omega arith)
-begun_step k n s t u o next q (suc left) rest b h y e p =
-    let j : suc left - 1 ≡ left = omega arith in
-    subst (λ (w : ℕ). Begun k n s u o q w (rest / 256)) (sym j)
-    (record {
-      done = p.done ++ (b ∷ []);
-      whole = append_assoc p.done (b ∷ []) (little_endian left (rest / 256)) ∙ ap (λ (w : ℕ). p.done ++ (w ∷ little_endian left (rest / 256))) e ∙ p.whole;
-      put = put_then s t u o next q p.done (b ∷ []) p.put y;
-    })
+low_first zero i n = refl
+low_first (suc k) zero n =
+    let e : n / 256 ≡ n / 256 ^ 1 = refl in
+    rw (div-one n, low_first k 1 n, e)
+low_first (suc k) (suc i) n = rw (low_first k (suc (suc i)) n, pow-suc 256 (suc i), ← div-div-eq-div-mul n (256 ^ suc i) 256)
 
-pub begun_end : (k n : ℕ) (s t : List ℕ) (o next left rest : ℕ) → left ≡ 0 → Begun k n s t o next left rest → Put s t o next (little_endian k n)
-unfolding little_endian
-begun_end k n s t o next left rest e p =
-    subst (λ (w : List ℕ). Put s t o next w)
-    (sym (append-nil p.done) ∙ sym (ap (λ (w : ℕ). p.done ++ little_endian w rest) e) ∙ p.whole) p.put
+take_low : (k m i n : ℕ) → k ≤ m → take k (bytes_low_first i m n) ≡ bytes_low_first i k n
+take_low zero m i n h = refl
+take_low (suc k) zero i n h = absurd (omega arith)
+take_low (suc k) (suc m) i n h = ap (λ (w : List ℕ). byte_at i n ∷ w) (take_low k m (suc i) n (omega arith))
+
+-- the lowest k of the eight bytes of n
+pub low_bytes : (k n : ℕ) → k ≤ 8 → take k (to_le_bytes w64 n) ≡ little_endian k n
+low_bytes k n h = take_low k 8 0 n h ∙ low_first k 0 n ∙ ap (little_endian k) (div-one n)
 
 -- bytes of equal numbers
 pub put_number_as : (s t : List ℕ) (o r k n n' : ℕ) → n ≡ n' → Put s t o r (little_endian k n) → Put s t o r (little_endian k n')

@@ -6,6 +6,16 @@ ghost use Rattle.writing.specs.Writing as spec;
 
 use numbers::bits;
 
+// The bytes themselves.
+pub fn put_bytes(out: &mut [u8], at: usize, bytes: &[u8]) -> usize
+    requires { at + length bytes.now ≤ length out.old }
+    ensures { (result ≡ at + length bytes.now) × Put out.old out.new at result bytes.now }
+{
+    let next = at + bytes.len();
+    out[at..next].copy_from_slice(bytes);
+    next
+}
+
 fn put_byte(out: &mut [u8], at: usize, b: u8) -> usize
     requires { at < length out.old }
     ensures { (result ≡ at + 1) × Put out.old out.new at result (b ∷ []) }
@@ -16,18 +26,12 @@ fn put_byte(out: &mut [u8], at: usize, b: u8) -> usize
 
 // n in k bytes, the lowest first.
 fn put_number(out: &mut [u8], at: usize, n: u64, k: usize) -> usize
-    requires { at + k ≤ length out.old }
+    requires k_bound { k ≤ 8 }
+    requires k_in_bounds { at + k ≤ length out.old }
     ensures { (result ≡ at + k) × Put out.old out.new at result (little_endian k n) }
 {
-    let mut next = at;
-    let mut rest = n;
-    let mut left = k;
-    while left > 0 {
-        next = put_byte(out, next, (rest % 256) as u8);
-        rest /= 256;
-        left -= 1;
-    }
-    next
+    let bytes = n.to_le_bytes();
+    put_bytes(out, at, &bytes[..k])
 }
 
 // n doubles of xs, from place o on.
@@ -37,10 +41,8 @@ fn put_doubles(out: &mut [u8], at: usize, xs: &[f64], o: usize, n: usize) -> usi
     ensures { (result ≡ at + 8 * n) × Put out.old out.new at result (doubles_bytes xs.now o n) }
 {
     let mut next = at;
-    let mut i = 0;
-    while i < n {
+    for i in 0..n {
         next = put_number(out, next, bits(xs[o + i]), 8);
-        i += 1;
     }
     next
 }

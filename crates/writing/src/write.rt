@@ -1,281 +1,216 @@
 // A scene that the caller lends, tested and written: bytes, words and numbers of all bodies, then of all relations. specs/Lent.antt has the definitions.
 
 ghost use Rattle.std.specs.Prelude.{◌≡◌, ◌+◌, ◌*◌, ◌≤◌, ◌<◌, length};
+ghost use Rattle.faults.specs.Fault.{number_of};
 ghost use Rattle.writing.specs.Bytes.{joined, Put};
 ghost use Rattle.writing.specs.Writing as spec;
 ghost use Rattle.writing.specs.Lent as lent;
 
 use crate::bytes::{put_body, put_header, put_rel};
-use format::refusals::{body_fault, or_else, rel_fault};
+use faults::fault::Fault;
+use format::refusals::{body_fault, rel_fault};
 
-// A record's own bytes are made, and tested as where they are read.
-pub fn body_parts_fault(bytes: &[u8], numbers: &[f64]) -> u32
+// A record's own bytes are made, and tested as where they are read. The parts are slices of their own: tried as fields of one struct, where the check does not know that
+// the elements are numbers of the machine, as is promised here.
+pub fn body_parts_fault(bytes: &[u8], numbers: &[f64]) -> Result<(), Fault>
     requires in_bounds { 2 ≤ length bytes.now }
     requires in_bounds_2 { 16 ≤ length numbers.now }
-    ensures { spec.BodyTested (record { bytes = bytes.entry.now; numbers = numbers.now }) result }
+    ensures { spec.BodyTested (record { bytes = bytes.entry.now; numbers = numbers.now }) (number_of result) }
 {
     let mut d = [0u8; 136];
     put_body(&mut d, 0, bytes, numbers);
     body_fault(&d, 0)
 }
 
-pub fn rel_parts_fault(m: usize, bytes: &[u8], words: &[u16], numbers: &[f64]) -> u32
+pub fn rel_parts_fault(m: usize, bytes: &[u8], words: &[u16], numbers: &[f64]) -> Result<(), Fault>
     requires in_bounds { 9 ≤ length bytes.now }
     requires in_bounds_2 { 5 ≤ length words.now }
     requires in_bounds_3 { 29 ≤ length numbers.now }
-    ensures { spec.RelTested m (record { bytes = bytes.entry.now; words = words.now; numbers = numbers.now }) result }
+    ensures { spec.RelTested m (record { bytes = bytes.entry.now; words = words.now; numbers = numbers.now }) (number_of result) }
 {
     let mut d = [0u8; 264];
     put_rel(&mut d, 0, bytes, words, numbers);
     rel_fault(m, &d, 0)
 }
 
-pub fn counts_fault(m: usize, k: usize) -> u32
-    ensures { result ≡ spec.counts_fault m k }
+pub fn counts_fault(m: usize, k: usize) -> Result<(), Fault>
+    ensures { number_of result ≡ spec.counts_fault m k }
 {
-    if (m <= 64) & (k <= 128) { 0 } else { 3 }
+    if m > 64 || k > 128 {
+        return Err(Fault::Counts);
+    }
+    Ok(())
 }
 
-pub fn room_fault(m: usize, k: usize, room: usize) -> u32
+pub fn room_fault(m: usize, k: usize, room: usize) -> Result<(), Fault>
     requires m_bound { m ≤ 64 }
     requires k_bound { k ≤ 128 }
-    ensures { result ≡ spec.room_fault m k room }
+    ensures { number_of result ≡ spec.room_fault m k room }
 {
     if 24 + 136 * m + 264 * k <= room {
-        0
+        Ok(())
     } else {
-        10
+        Err(Fault::Room)
     }
 }
 
-fn lent_fault(m: usize, k: usize, bytes: usize, words: usize, numbers: usize) -> u32
+fn lent_fault(m: usize, k: usize, bytes: usize, words: usize, numbers: usize) -> Result<(), Fault>
     requires m_bound { m ≤ 64 }
     requires k_bound { k ≤ 128 }
-    ensures { result ≡ lent.lent_fault m k bytes words numbers }
+    ensures { number_of result ≡ lent.lent_fault m k bytes words numbers }
 {
-    if (2 * m + 9 * k <= bytes) & ((5 * k <= words) & (16 * m + 29 * k <= numbers)) {
-        0
+    if 2 * m + 9 * k <= bytes && 5 * k <= words && 16 * m + 29 * k <= numbers {
+        Ok(())
     } else {
-        10
+        Err(Fault::Room)
     }
 }
 
-// Body i of those lent.
-fn lent_body_fault(bytes: &[u8], numbers: &[f64], i: usize) -> u32
-    requires i_bound { i < 64 }
-    requires i_in_bounds { 2 * i + 2 ≤ length bytes.now }
-    requires i_in_bounds_2 { 16 * i + 16 ≤ length numbers.now }
-    ensures { result ≡ spec.body_parts_fault (lent.lent_body bytes.now numbers.now i) }
-{
-    let b = 2 * i;
-    let b_end = b + 2;
-    let x = 16 * i;
-    let x_end = x + 16;
-    body_parts_fault(&bytes[b..b_end], &numbers[x..x_end])
-}
-
-fn put_lent_body(out: &mut [u8], at: usize, bytes: &[u8], numbers: &[f64], i: usize) -> usize
-    requires i_bound { i < 64 }
-    requires i_in_bounds { 2 * i + 2 ≤ length bytes.now }
-    requires i_in_bounds_2 { 16 * i + 16 ≤ length numbers.now }
-    requires at_in_bounds { at + 136 ≤ length out.old }
-    ensures { (result ≡ at + 136) × Put out.old out.new at result (spec.body_bytes (lent.lent_body bytes.now numbers.now i)) }
-{
-    let b = 2 * i;
-    let b_end = b + 2;
-    let x = 16 * i;
-    let x_end = x + 16;
-    put_body(out, at, &bytes[b..b_end], &numbers[x..x_end])
-}
-
-// Relation j of those lent, behind m bodies.
-fn lent_rel_fault(m: usize, bytes: &[u8], words: &[u16], numbers: &[f64], j: usize) -> u32
-    requires m_bound { m ≤ 64 }
-    requires j_bound { j < 128 }
-    requires j_in_bounds { 2 * m + 9 * j + 9 ≤ length bytes.now }
-    requires j_in_bounds_2 { 5 * j + 5 ≤ length words.now }
-    requires j_in_bounds_3 { 16 * m + 29 * j + 29 ≤ length numbers.now }
-    ensures { result ≡ spec.rel_parts_fault m (lent.lent_rel m bytes.now words.now numbers.now j) }
-{
-    let b = 2 * m + 9 * j;
-    let b_end = b + 9;
-    let w = 5 * j;
-    let w_end = w + 5;
-    let x = 16 * m + 29 * j;
-    let x_end = x + 29;
-    rel_parts_fault(m, &bytes[b..b_end], &words[w..w_end], &numbers[x..x_end])
-}
-
-fn put_lent_rel(
-    out: &mut [u8],
-    at: usize,
-    m: usize,
-    bytes: &[u8],
-    words: &[u16],
-    numbers: &[f64],
-    j: usize,
-) -> usize
-    requires m_bound { m ≤ 64 }
-    requires j_bound { j < 128 }
-    requires j_in_bounds { 2 * m + 9 * j + 9 ≤ length bytes.now }
-    requires j_in_bounds_2 { 5 * j + 5 ≤ length words.now }
-    requires j_in_bounds_3 { 16 * m + 29 * j + 29 ≤ length numbers.now }
-    requires at_in_bounds { at + 264 ≤ length out.old }
-    ensures { (result ≡ at + 264) × Put out.old out.new at result (spec.rel_bytes (lent.lent_rel m bytes.now words.now numbers.now j)) }
-{
-    let b = 2 * m + 9 * j;
-    let b_end = b + 9;
-    let w = 5 * j;
-    let w_end = w + 5;
-    let x = 16 * m + 29 * j;
-    let x_end = x + 29;
-    put_rel(
-        out,
-        at,
-        &bytes[b..b_end],
-        &words[w..w_end],
-        &numbers[x..x_end],
-    )
-}
-
-// The first fault among m bodies.
-fn bodies_fault(m: usize, bytes: &[u8], numbers: &[f64]) -> u32
-    requires m_bound { m ≤ 64 }
-    requires m_in_bounds { 2 * m ≤ length bytes.now }
-    requires m_in_bounds_2 { 16 * m ≤ length numbers.now }
-    ensures { result ≡ spec.first_fault (λ i. spec.body_parts_fault (lent.lent_body bytes.now numbers.now i)) m }
-{
-    let mut fault: u32 = 0;
-    let mut i = 0;
-    while i < m {
-        fault = or_else(fault, lent_body_fault(bytes, numbers, i));
-        i += 1;
-    }
-    fault
-}
-
-// The first fault among k relations behind m bodies.
-fn rels_fault(m: usize, k: usize, bytes: &[u8], words: &[u16], numbers: &[f64]) -> u32
-    requires m_bound { m ≤ 64 }
-    requires k_bound { k ≤ 128 }
-    requires k_in_bounds { 2 * m + 9 * k ≤ length bytes.now }
-    requires k_in_bounds_2 { 5 * k ≤ length words.now }
-    requires k_in_bounds_3 { 16 * m + 29 * k ≤ length numbers.now }
-    ensures { result ≡ spec.first_fault (λ j. spec.rel_parts_fault m (lent.lent_rel m bytes.now words.now numbers.now j)) k }
-{
-    let mut fault: u32 = 0;
-    let mut j = 0;
-    while j < k {
-        fault = or_else(fault, lent_rel_fault(m, bytes, words, numbers, j));
-        j += 1;
-    }
-    fault
-}
-
-fn put_bodies(out: &mut [u8], at: usize, m: usize, bytes: &[u8], numbers: &[f64]) -> usize
-    requires m_bound { m ≤ 64 }
-    requires m_in_bounds { 2 * m ≤ length bytes.now }
-    requires m_in_bounds_2 { 16 * m ≤ length numbers.now }
-    requires m_in_bounds_3 { at + 136 * m ≤ length out.old }
-    ensures { (result ≡ at + 136 * m) × Put out.old out.new at result (joined (λ i. spec.body_bytes (lent.lent_body bytes.now numbers.now i)) m) }
-{
-    let mut next = at;
-    let mut i = 0;
-    while i < m {
-        next = put_lent_body(out, next, bytes, numbers, i);
-        i += 1;
-    }
-    next
-}
-
-fn put_rels(
-    out: &mut [u8],
-    at: usize,
+// A scene within the counts, m bodies and k relations, and what is lent of it: no slice is short.
+#[derive(Clone, Copy)]
+struct Lent<'a> {
     m: usize,
     k: usize,
+    bytes: &'a [u8],
+    words: &'a [u16],
+    numbers: &'a [f64],
+    ghost few_bodies: { m ≤ 64 },
+    ghost few_relations: { k ≤ 128 },
+    ghost enough_bytes: { 2 * m + 9 * k ≤ length bytes.now },
+    ghost enough_words: { 5 * k ≤ length words.now },
+    ghost enough_numbers: { 16 * m + 29 * k ≤ length numbers.now },
+}
+
+impl<'a> Lent<'a> {
+    fn body_fault(&self, i: usize) -> Result<(), Fault>
+        requires { i < self.now.m }
+        ensures { number_of result ≡ spec.body_parts_fault (lent.lent_body self.now.bytes.now self.now.numbers.now i) }
+    {
+        let b = 2 * i;
+        let x = 16 * i;
+        body_parts_fault(&self.bytes[b..b + 2], &self.numbers[x..x + 16])
+    }
+
+    fn put_body(&self, out: &mut [u8], at: usize, i: usize) -> usize
+        requires i_bound { i < self.now.m }
+        requires at_in_bounds { at + 136 ≤ length out.old }
+        ensures { (result ≡ at + 136) × Put out.old out.new at result (spec.body_bytes (lent.lent_body self.now.bytes.now self.now.numbers.now i)) }
+    {
+        let b = 2 * i;
+        let x = 16 * i;
+        put_body(out, at, &self.bytes[b..b + 2], &self.numbers[x..x + 16])
+    }
+
+    fn rel_fault(&self, j: usize) -> Result<(), Fault>
+        requires { j < self.now.k }
+        ensures { number_of result ≡ spec.rel_parts_fault self.now.m (lent.lent_rel self.now.m self.now.bytes.now self.now.words.now self.now.numbers.now j) }
+    {
+        let b = 2 * self.m + 9 * j;
+        let w = 5 * j;
+        let x = 16 * self.m + 29 * j;
+        rel_parts_fault(
+            self.m,
+            &self.bytes[b..b + 9],
+            &self.words[w..w + 5],
+            &self.numbers[x..x + 29],
+        )
+    }
+
+    fn put_rel(&self, out: &mut [u8], at: usize, j: usize) -> usize
+        requires j_bound { j < self.now.k }
+        requires at_in_bounds { at + 264 ≤ length out.old }
+        ensures { (result ≡ at + 264) × Put out.old out.new at result (spec.rel_bytes (lent.lent_rel self.now.m self.now.bytes.now self.now.words.now self.now.numbers.now j)) }
+    {
+        let b = 2 * self.m + 9 * j;
+        let w = 5 * j;
+        let x = 16 * self.m + 29 * j;
+        put_rel(
+            out,
+            at,
+            &self.bytes[b..b + 9],
+            &self.words[w..w + 5],
+            &self.numbers[x..x + 29],
+        )
+    }
+
+    // The first fault among the bodies.
+    fn bodies_fault(&self) -> Result<(), Fault>
+        ensures { number_of result ≡ spec.first_fault (λ i. spec.body_parts_fault (lent.lent_body self.now.bytes.now self.now.numbers.now i)) self.now.m }
+    {
+        for i in 0..self.m {
+            self.body_fault(i)?;
+        }
+        Ok(())
+    }
+
+    // The first fault among the relations.
+    fn rels_fault(&self) -> Result<(), Fault>
+        ensures { number_of result ≡ spec.first_fault (λ j. spec.rel_parts_fault self.now.m (lent.lent_rel self.now.m self.now.bytes.now self.now.words.now self.now.numbers.now j)) self.now.k }
+    {
+        for j in 0..self.k {
+            self.rel_fault(j)?;
+        }
+        Ok(())
+    }
+
+    fn put_bodies(&self, out: &mut [u8], at: usize) -> usize
+        requires { at + 136 * self.now.m ≤ length out.old }
+        ensures { (result ≡ at + 136 * self.now.m) × Put out.old out.new at result (joined (λ i. spec.body_bytes (lent.lent_body self.now.bytes.now self.now.numbers.now i)) self.now.m) }
+    {
+        let mut next = at;
+        for i in 0..self.m {
+            next = self.put_body(out, next, i);
+        }
+        next
+    }
+
+    fn put_rels(&self, out: &mut [u8], at: usize) -> usize
+        requires { at + 264 * self.now.k ≤ length out.old }
+        ensures { (result ≡ at + 264 * self.now.k) × Put out.old out.new at result (joined (λ j. spec.rel_bytes (lent.lent_rel self.now.m self.now.bytes.now self.now.words.now self.now.numbers.now j)) self.now.k) }
+    {
+        let mut next = at;
+        for j in 0..self.k {
+            next = self.put_rel(out, next, j);
+        }
+        next
+    }
+
+    // Puts the sheet's bytes, from its first on.
+    fn put(&self, out: &mut [u8]) -> usize
+        requires { 24 + 136 * self.now.m + 264 * self.now.k ≤ length out.old }
+        ensures { (result ≡ 24 + 136 * self.now.m + 264 * self.now.k) × Put out.old out.new 0 result (spec.sheet_bytes (lent.lent_scene self.now.m self.now.k self.now.bytes.now self.now.words.now self.now.numbers.now)) }
+    {
+        let a = put_header(out, 0, self.m, self.k);
+        let b = self.put_bodies(out, a);
+        self.put_rels(out, b)
+    }
+}
+
+// Writes the sheet of the scene, unless test 3, 5, 14, 6, 7 or 10 refuses it; then nothing has changed.
+pub fn write(
+    m: u16,
+    k: u16,
     bytes: &[u8],
     words: &[u16],
     numbers: &[f64],
-) -> usize
-    requires m_bound { m ≤ 64 }
-    requires k_bound { k ≤ 128 }
-    requires k_in_bounds { 2 * m + 9 * k ≤ length bytes.now }
-    requires k_in_bounds_2 { 5 * k ≤ length words.now }
-    requires k_in_bounds_3 { 16 * m + 29 * k ≤ length numbers.now }
-    requires k_in_bounds_4 { at + 264 * k ≤ length out.old }
-    ensures { (result ≡ at + 264 * k) × Put out.old out.new at result (joined (λ j. spec.rel_bytes (lent.lent_rel m bytes.now words.now numbers.now j)) k) }
+    sheet: &mut [u8],
+) -> Result<(), Fault>
+    ensures { lent.WriteAnswer m k bytes.now words.now numbers.now (number_of result) sheet.old sheet.new }
 {
-    let mut next = at;
-    let mut j = 0;
-    while j < k {
-        next = put_lent_rel(out, next, m, bytes, words, numbers, j);
-        j += 1;
-    }
-    next
-}
-
-// The sheet's bytes, from its first on.
-fn put_sheet(
-    out: &mut [u8],
-    m: usize,
-    k: usize,
-    bytes: &[u8],
-    words: &[u16],
-    numbers: &[f64],
-) -> usize
-    requires m_bound { m ≤ 64 }
-    requires k_bound { k ≤ 128 }
-    requires k_in_bounds { 2 * m + 9 * k ≤ length bytes.now }
-    requires k_in_bounds_2 { 5 * k ≤ length words.now }
-    requires k_in_bounds_3 { 16 * m + 29 * k ≤ length numbers.now }
-    requires k_in_bounds_4 { 24 + 136 * m + 264 * k ≤ length out.old }
-    ensures { (result ≡ 24 + 136 * m + 264 * k) × Put out.old out.new 0 result (spec.sheet_bytes (lent.lent_scene m k bytes.now words.now numbers.now)) }
-{
-    let a = put_header(out, 0, m, k);
-    let b = put_bodies(out, a, m, bytes, numbers);
-    put_rels(out, b, m, k, bytes, words, numbers)
-}
-
-// The number of a scene that passes 3: 10 where it is not whole, then the records' own.
-fn scene_fault(m: usize, k: usize, bytes: &[u8], words: &[u16], numbers: &[f64]) -> u32
-    requires m_bound { m ≤ 64 }
-    requires k_bound { k ≤ 128 }
-    ensures { result ≡ lent.lent_scene_fault m k bytes.now words.now numbers.now }
-{
-    let short = lent_fault(m, k, bytes.len(), words.len(), numbers.len());
-    if short == 0 {
-        return or_else(
-            bodies_fault(m, bytes, numbers),
-            rels_fault(m, k, bytes, words, numbers),
-        );
-    }
-    short
-}
-
-// Tests 3, 5, 14, 6, 7 and 10 of a scene that is to be written to `room` bytes: the number of the first that fails, 0 for none.
-fn write_fault(m: usize, k: usize, bytes: &[u8], words: &[u16], numbers: &[f64], room: usize) -> u32
-    ensures { result ≡ lent.write_fault m k bytes.now words.now numbers.now room }
-{
-    let counts = counts_fault(m, k);
-    if counts == 0 {
-        return or_else(
-            scene_fault(m, k, bytes, words, numbers),
-            room_fault(m, k, room),
-        );
-    }
-    counts
-}
-
-// Writes the sheet of the scene: 0, or the number of the test that refuses it; then nothing has changed.
-pub fn write(m: u16, k: u16, bytes: &[u8], words: &[u16], numbers: &[f64], sheet: &mut [u8]) -> u32
-    ensures { lent.WriteAnswer m k bytes.now words.now numbers.now result sheet.old sheet.new }
-{
-    let bodies = m as usize;
-    let rels = k as usize;
-    let number = write_fault(bodies, rels, bytes, words, numbers, sheet.len());
-    if number == 0 {
-        put_sheet(sheet, bodies, rels, bytes, words, numbers);
-        return 0;
-    }
-    number
+    let m = m as usize;
+    let k = k as usize;
+    counts_fault(m, k)?;
+    lent_fault(m, k, bytes.len(), words.len(), numbers.len())?;
+    let scene = Lent {
+        m,
+        k,
+        bytes,
+        words,
+        numbers,
+    };
+    scene.bodies_fault()?;
+    scene.rels_fault()?;
+    room_fault(m, k, sheet.len())?;
+    scene.put(sheet);
+    Ok(())
 }

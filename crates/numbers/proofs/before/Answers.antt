@@ -1,7 +1,7 @@
 -- `numbers::before` meets its contract: one law for each outcome of the two comparisons: less, equal and neither (`before_less`, `before_level`, `before_apart`). What
 -- is left to decide are the signs that `negative` promises, or which of the two is a NaN. Assumes nothing.
 use mathlib.Core.Path.{sym}
-use Rattle.numbers.proofs.DoubleLaws.{eq_self, ne_self, before_less, before_level, before_apart}
+use Rattle.numbers.proofs.DoubleLaws.{before_less, before_level, before_apart}
 use Rattle.numbers.proofs.before.Goals as goal
 
 pub returns-then-a-b : goal.returns-then-a-b
@@ -13,8 +13,8 @@ returns-then-negative c = rw (before_level c.args.a c.args.b c.if-a-b.false c.if
 pub returns-else-negative : goal.returns-else-negative
 returns-else-negative c = rw (before_level c.args.a c.args.b c.if-a-b.false c.if-a-b-2.true, ← c.negative.ensures, c.if-negative.false)
 
-pub returns-then-a : goal.returns-then-a
-returns-then-a c = rw (before_apart c.args.a c.args.b c.if-a-b.false c.if-a-b-2.false, ← eq_self, c.if-a.true, ne_self)
+pub returns-then-not-is_nan : goal.returns-then-not-is_nan
+returns-then-not-is_nan c = rw (before_apart c.args.a c.args.b c.if-a-b.false c.if-a-b-2.false, ← c.is_nan.ensures.value, c.if-not-is_nan.true, ← c.is_nan-then-not-is_nan.ensures.value)
 
-pub returns-else-a : goal.returns-else-a
-returns-else-a c = rw (before_apart c.args.a c.args.b c.if-a-b.false c.if-a-b-2.false, ← eq_self, c.if-a.false)
+pub returns-else-not-is_nan : goal.returns-else-not-is_nan
+returns-else-not-is_nan c = rw (before_apart c.args.a c.args.b c.if-a-b.false c.if-a-b-2.false, ← c.is_nan.ensures.value, c.if-not-is_nan.false)

@@ -7,4 +7,4 @@ use Rattle.numbers.proofs.of_u16.Goals as goal
 
 pub returns : goal.returns
 unfolding of_whole
-returns c = record { is = refl; exact = whole_exact c.args.n (omega arith) }
+returns c = rw c.from.ensures (record { is = refl; exact = whole_exact c.args.n (omega arith) })

@@ -1,38 +1,40 @@
--- `arcs::horner::horner` meets its contract. The loop's invariant: r is the value of the coefficients from i on. The measure is i. Assumes nothing.
-use mathlib.Core.Path.{◌≡◌, refl, sym}
-use mathlib.Core.List.{List, [], ◌∷◌}
-use Prim.Native.Nat.{suc, ◌-◌}
+-- `arcs::horner::horner` meets its contract: the fold from the top coefficient down is Horner's rule (`horner_fold`). Assumes nothing.
+use mathlib.Core.Path.{◌≡◌, refl, sym, ap, ◌∙◌}
+use mathlib.Core.List.{List, [], ◌∷◌, ◌++◌}
+use Prim.Native.Nat.{suc, ◌-◌, ◌<◌}
 use native.Mathlib.Omega.{arith}
-use native.Mathlib.Nat.{suc-ne-zero}
-use lib.ListN.{length}
-use lib.Ieee.{Float, nan}
+use lib.ListN.{length, get_or, take}
+use lib.Seq.{take-suc, take_all}
+use lib.Ieee.{Float, nan, binary64, add, mul}
+use Rattle.std.proofs.Common.{rules, tests}
+use Rattle.std.proofs.lemmas.Iterator.Adapters.{YieldsList-from_rev_slice}
+use Rattle.std.proofs.lemmas.Iterator.Consumers.{fold_from_yields_List}
 use Rattle.numbers.specs.Double.{zero64}
 use Rattle.numbers.specs.Ops.{doubles}
 use Rattle.numbers.specs.Horner as spec
-use Rattle.numbers.proofs.Loops.{horner_top, horner_step}
+use Rattle.numbers.proofs.Loops.{horner_fold}
 use Rattle.arcs.proofs.horner.horner.Goals as goal
 
-none : (cs : List Float) (z : Float) → length cs ≡ 0 → spec.horner doubles cs z ≡ zero64
+none : (cs : List Float) (z : Float) → length cs < 1 → zero64 ≡ spec.horner doubles cs z
 unfolding spec.horner
 none [] z e = refl
-none (c ∷ cs) z e = absurd (suc-ne-zero _ e)
+none (c ∷ cs) z e = absurd (omega arith)
 
-pub returns-then-i-eq0 : goal.returns-then-i-eq0
-returns-then-i-eq0 c = sym (none c.args.cs.now c.args.z c.if-i-eq0.true)
+-- the coefficients below the top one, and the top one
+parts : (cs : List Float) → 0 < length cs → take (length cs - 1) cs ++ get_or cs (length cs - 1) nan ∷ [] ≡ cs
+parts cs h =
+    let k : suc (length cs - 1) ≡ length cs = omega arith in
+    let least : length cs - 1 < length cs = omega arith in
+    sym (take-suc cs (length cs - 1) nan least) ∙ rw k (take_all (length cs) cs (omega arith))
 
-pub loop-i-init : goal.loop-i-init
-loop-i-init c =
+pub returns-in-empty : goal.returns-in-empty
+returns-in-empty c = none c.args.cs.now c.args.z c.in-empty.len_below
+
+pub returns-in-len1-up : goal.returns-in-len1-up
+returns-in-len1-up c =
     let cs = c.args.cs.now in
-    (omega arith, sym (horner_top doubles cs c.args.z (length cs - 1) nan (omega arith)))
-
-pub loop-i-preserved : goal.loop-i-preserved
-loop-i-preserved c =
-    let cs = c.args.cs.now in
-    let i = c.loop-i.i in
-    let e : suc (i - 1) ≡ i = omega arith in
-    (omega arith, rw (horner_step doubles cs c.args.z (i - 1) nan (omega arith), e, ← c.loop-i.invariant.1))
-
-pub returns : goal.returns
-returns c =
-    let e : c.loop-i.i ≡ 0 = omega arith in
-    rw e at c.loop-i.invariant.1
+    let z = c.args.z in
+    let top = get_or cs (length cs - 1) nan in
+    let rest = take (length cs - 1) cs in
+    let folded = fold_from_yields_List _ (λ r c. add binary64 c (mul binary64 z r)) top _ c.fold.ensures.ran (YieldsList-from_rev_slice rest cc) (λ a x b q k. search (rules, tests)) in
+    folded ∙ horner_fold doubles top z rest ∙ ap (λ (l : List Float). spec.horner doubles l z) (parts cs (omega (arith, c.in-len1-up.len_at_least)))

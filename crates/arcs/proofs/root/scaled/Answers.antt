@@ -51,23 +51,8 @@ module _ (c : goal.Start) where
   at : Zeros c.args.n (count_leading_zeros 64 c.args.n)
   at = zeros c.args.n c.requires.0 c.requires.1
 
-pub overflow_cast-s : goal.overflow_cast-s
-overflow_cast-s c = omega (arith, at c)
-
 pub overflow_sub-s : goal.overflow_sub-s
 overflow_sub-s c = omega (arith, at c)
-
-pub overflow_sub-j : goal.overflow_sub-j
-overflow_sub-j c = omega (arith, at c)
-
-pub overflow_add-result : goal.overflow_add-result
-overflow_add-result c = omega (arith, at c)
-
-pub overflow_shl-result : goal.overflow_shl-result
-overflow_shl-result c = omega (arith, at c)
-
-pub overflow_sub-result : goal.overflow_sub-result
-overflow_sub-result c = omega (arith, at c)
 
 pub returns : goal.returns
 returns c = even c.args.n (c.args.e + 1074) (count_leading_zeros 64 c.args.n - 11) ((c.args.e + 1074 - (count_leading_zeros 64 c.args.n - 11)) % 2) _ (at c).low (at c).high (omega arith) (omega (arith, at c)) (omega (arith, at c))

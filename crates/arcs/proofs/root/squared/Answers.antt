@@ -32,26 +32,5 @@ module _ (c : goal.Start) where
   at : Halves c.args.c (c.args.c / 2 ^ 27) (c.args.c % 2 ^ 27)
   at = halves c.args.c c.requires
 
-pub overflow_mul-p : goal.overflow_mul-p
-overflow_mul-p c = omega (arith, at c)
-
-pub overflow_mul-result : goal.overflow_mul-result
-overflow_mul-result c = omega (arith, at c)
-
-pub overflow_mul-result-2 : goal.overflow_mul-result-2
-overflow_mul-result-2 c = omega (arith, at c)
-
-pub overflow_add-result : goal.overflow_add-result
-overflow_add-result c = omega (arith, at c)
-
-pub overflow_mul-result-3 : goal.overflow_mul-result-3
-overflow_mul-result-3 c = omega (arith, at c)
-
-pub overflow_mul-result-4 : goal.overflow_mul-result-4
-overflow_mul-result-4 c = omega (arith, at c)
-
-pub overflow_add-result-2 : goal.overflow_add-result-2
-overflow_add-result-2 c = omega (arith, at c)
-
 pub returns : goal.returns
 returns c = record { same = (at c).whole; top = omega (arith, at c); bottom = omega (arith, at c) }

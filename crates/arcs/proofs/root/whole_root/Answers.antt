@@ -43,13 +43,13 @@ rounded_down : (m q rem : ℕ) → q * q + rem ≡ m → 0 < m → rem ≤ q →
 rounded_down m zero rem e p h = record { low = omega arith; high = omega arith }
 rounded_down m (suc q) rem e p h = record { low = omega arith; high = omega arith }
 
-pub loop-i-init : goal.loop-i-init
-loop-i-init c = start c.args.m c.requires.1
+pub loop-init : goal.loop-init
+loop-init c = start c.args.m c.requires.1
 
-pub loop-i-preserved : goal.loop-i-preserved
-loop-i-preserved c =
-    let t = c.loop-i.invariant in
-    let l = c.loop-i-test.true in
+pub loop-preserved : goal.loop-preserved
+loop-preserved c =
+    let t = c.loop.invariant in
+    let l = c.loop-test.true in
     elim c.if-q-more.branch [
       | then-q-more w ↦ rw (w.q-is, w.rem-is) (digit_one _ _ _ _ _ t l w.if-q-more.true)
       | else-q-more w ↦ rw (w.q-is, w.rem-is) (digit_zero _ _ _ _ _ t l w.if-q-more.false)
@@ -57,10 +57,10 @@ loop-i-preserved c =
 
 pub returns-then-q-rem : goal.returns-then-q-rem
 returns-then-q-rem c =
-    let t = c.loop-i.invariant in
-    rounded_up _ _ _ (whole _ _ _ _ _ t c.loop-i-test.false) t.left c.if-q-rem.true
+    let t = c.loop.invariant in
+    rounded_up _ _ _ (whole _ _ _ _ _ t c.loop-test.false) t.left c.if-q-rem.true
 
 pub returns-else-q-rem : goal.returns-else-q-rem
 returns-else-q-rem c =
-    let t = c.loop-i.invariant in
-    rounded_down _ _ _ (whole _ _ _ _ _ t c.loop-i-test.false) (omega arith) c.if-q-rem.false
+    let t = c.loop.invariant in
+    rounded_down _ _ _ (whole _ _ _ _ _ t c.loop-test.false) (omega arith) c.if-q-rem.false

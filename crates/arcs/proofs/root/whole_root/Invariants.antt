@@ -1,6 +1,6 @@
 -- `arcs::root::whole_root` meets its contract. The invariant: of m * 2 ^ 52, written with 53 digits of base 4, the first i are q * q + rem, with q the whole part of their root,
 -- and the others are `rest`, at the top of a word. After 53 turns q * q + rem is m * 2 ^ 52, and rem against q decides the rounding. Assumes nothing.
-use Prim.Native.Nat.{ℕ, ◌+◌, ◌-◌, ◌*◌, ◌^◌, ◌≤◌, ◌<◌}
+use Prim.Native.Nat.{ℕ, ◌+◌, ◌*◌, ◌^◌, ◌≤◌, ◌<◌}
 use mathlib.Core.Path.{◌≡◌}
 use Rattle.arcs.proofs.root.whole_root.Given as goal
 
@@ -12,8 +12,5 @@ pub record Turn (m q rem rest i : ℕ) : Type 0 where
   pub word : rest < 2 ^ 64
   pub turns : i ≤ 53
 
-abbrev pub invariant-loop-i : goal.invariant-loop-i
-invariant-loop-i l = Turn l.m l.q l.rem l.rest l.i
-
-abbrev pub decreases-loop-i : goal.decreases-loop-i
-decreases-loop-i l = 53 - l.i
+abbrev pub invariant-loop : goal.invariant-loop
+invariant-loop l = Turn l.m l.q l.rem l.rest l.counter

@@ -3,7 +3,6 @@ use Prim.Native.Nat.{ℕ, suc, ◌+◌, ◌-◌, ◌*◌, ◌/◌, ◌^◌, ◌�
 use mathlib.Core.Path.{◌≡◌, sym, ◌∙◌}
 use mathlib.Core.Bool.{true, false}
 use lib.Dec.{leb}
-use native.Mathlib.Nat.{le_of_lt}
 use native.Mathlib.Omega.{arith}
 use borrow.Author.Tests.{leb-true, leb-false}
 use Rattle.arcs.specs.TurnSteps.{Room, turn}
@@ -44,17 +43,8 @@ around-c-requires c = (c.opened-a.ensures.top, c.opened-a.ensures.bottom)
 pub loop-room-init : goal.loop-room-init
 loop-room-init c = c.around-c.ensures
 
-pub overflow_add-k : goal.overflow_add-k
-overflow_add-k c = record { fits = word c.loop-room.k c.loop-room.room c.loop-room.invariant.top }
-
 pub fits-requires : goal.fits-requires
 fits-requires c = (inside _ _ c.loop-room.invariant.top c.loop-room-test.true, c.opened-a.ensures.bottom)
-
-pub overflow_add-k-then-fits : goal.overflow_add-k-then-fits
-overflow_add-k-then-fits c = record { fits = word c.loop-room.k c.loop-room.room c.loop-room.invariant.top }
-
-pub overflow_sub-room : goal.overflow_sub-room
-overflow_sub-room c = le_of_lt (half _ c.loop-room-test.true)
 
 pub loop-room-smaller-then-fits : goal.loop-room-smaller-then-fits
 loop-room-smaller-then-fits c = smaller _ c.loop-room-test.true

@@ -10,34 +10,33 @@ use Rattle.body_freedom.proofs.body.body_dof.Goals as goal
 
 pub fill_slides-slides-requires : goal.fill_slides-slides-requires
 fill_slides-slides-requires c =
-    let parts = first c.free_of-pure.result.count c.slide_parts.result in (
+    let parts = first c.of-pure.result.count c.parts_at-2.result in (
       whole_of c.span_basis-straight.result (span_basis parts SPAN) c.span_basis-straight.ensures,
       few_of c.span_basis-axes.result _ _ c.span_basis-axes.ensures,
-      c.free_of-free.ensures.0,
     )
 
 pub points_of-points-requires : goal.points_of-points-requires
-points_of-points-requires c = (c.free_of-free.ensures.0, few_of c.span_basis-axes.result _ _ c.span_basis-axes.ensures)
+points_of-points-requires c = few_of c.span_basis-axes.result _ _ c.span_basis-axes.ensures
 
 pub returns : goal.returns
 returns c =
     body_is c.args.a (good_grid 6 _ _ c.well_formed.0) (vec c.args.center) c.args.l c.sym_eigen-pairs.result c.sym_eigen.result c.top-most.result
-    c.free_of-free.result
-    c.free_of-pure.result
-    c.turn_parts.result
-    c.slide_parts.result
+    c.of-free.result
+    c.of-pure.result
+    c.parts_at.result
+    c.parts_at-2.result
     c.span_basis-axes.result
     c.span_basis-straight.result
     c.fill_slides-slides.result
     c.points_of-points.result
     c.sym_eigen-pairs.ensures
     c.top-most.ensures
-    c.free_of-free.ensures.1
-    c.turn_parts.ensures
+    c.of-free.ensures
+    c.parts_at.ensures
     c.span_basis-axes.ensures
     c.sym_eigen.ensures
-    c.free_of-pure.ensures.1
-    c.slide_parts.ensures
+    c.of-pure.ensures
+    c.parts_at-2.ensures
     c.span_basis-straight.ensures
     c.fill_slides-slides.ensures
     c.points_of-points.ensures

@@ -1,20 +1,16 @@
--- `body_freedom::body::largest_value` meets its contract. The loop's invariant: m and the pairs left give what all do. Assumes nothing.
+-- `body_freedom::body::largest_value` meets its contract: the fold over the pairs is the definition's (`largest_fold`). Assumes nothing.
 use native.Mathlib.Omega.{arith}
-use mathlib.Core.Path.{refl, sym, ◌∙◌}
-use Rattle.body_freedom.proofs.BodyLaws.{largest_step, largest_end}
+use mathlib.Core.Path.{◌∙◌}
+use lib.Seq.{take_all}
+use Rattle.std.proofs.Common.{rules, tests}
+use Rattle.std.proofs.lemmas.Iterator.{YieldsList-from_slice}
+use Rattle.std.proofs.lemmas.Iterator.Consumers.{fold_from_yields_List}
+use Rattle.numbers.specs.Double.{zero64, fmax}
+use Rattle.body_freedom.proofs.BodyLaws.{largest_fold}
 use Rattle.body_freedom.proofs.body.largest_value.Goals as goal
-
-pub loop-i-init : goal.loop-i-init
-loop-i-init c = (omega arith, c.well_formed.0.1.0.1, refl)
-
-pub loop-i-preserved : goal.loop-i-preserved
-loop-i-preserved c =
-    let l = c.loop-i in
-    let e = c.args.e in
-    (omega arith, l.invariant.1, rw c.max-m.ensures (sym (largest_step e l.invariant.1 l.m l.i (omega arith)) ∙ l.invariant.2))
 
 pub returns : goal.returns
 returns c =
-    let l = c.loop-i in
     let e = c.args.e in
-    sym (largest_end e l.invariant.1 l.m l.i (omega arith)) ∙ l.invariant.2
+    rw (take_all 6 e (omega arith))
+    (fold_from_yields_List _ (λ m p. fmax m p.value) zero64 _ c.fold.ensures.ran (YieldsList-from_slice e cc) (λ a x b q k. search (rules, tests)) ∙ largest_fold zero64 e)

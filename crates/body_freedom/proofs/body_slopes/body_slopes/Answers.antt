@@ -9,12 +9,12 @@ pub slopes_on-requires : goal.slopes_on-requires
 slopes_on-requires c =
     let apart = c.requires.body_apart in
     let z = c.moved_poses.ensures.kept.size in
-    record { laid = c.requires.laid; room = record { body = c.requires.i_lt_m; poses = apart.poses; twelve = omega arith; wide = omega arith; below = omega (arith, c.requires.m_len_bound) } }
+    record { room = record { body = c.requires.i_lt_m; poses = apart.poses; twelve = omega arith; wide = omega arith; below = omega (arith, c.requires.m_len_bound) } }
 
 pub returns : goal.returns
 returns c =
     let g = c.args in
     let apart = c.requires.body_apart in
-    body_slopes_is (scene_of g.sheet.now g.scene) g.s.now _ _ _ _ g.parts.poses g.scene.m g.i _ _ _ c.body_at-b.ensures c.six_steps.ensures c.requires.m_len_bound (omega arith)
+    body_slopes_is (scene_of g.sheet.bytes.now g.sheet.scene) g.s.now _ _ _ _ g.parts.poses g.sheet.scene.m g.i _ _ _ c.body-b.ensures c.six_steps.ensures c.requires.m_len_bound (omega arith)
     c.moved_poses.ensures
     c.slopes_on.ensures

@@ -8,7 +8,7 @@ use Rattle.body_freedom.proofs.BodySlopeLaws.{rest_starts}
 use Rattle.body_freedom.proofs.body_slopes.put_starts.Given as goal
 
 abbrev pub invariant-loop-i : goal.invariant-loop-i
-invariant-loop-i l = (l.i ≤ l.scene.m) × Growing l.initial.s l.s l.p (12 * l.i) (rest_starts l.sheet l.scene l.i) (poses_doubles (starts (scene_of l.sheet l.scene)))
+invariant-loop-i l = (l.i ≤ l.sheet.scene.m) × Growing l.initial.s l.s l.p (12 * l.i) (rest_starts l.sheet.bytes.now l.sheet.scene l.i) (poses_doubles (starts (scene_of l.sheet.bytes.now l.sheet.scene)))
 
 abbrev pub decreases-loop-i : goal.decreases-loop-i
-decreases-loop-i l = l.scene.m - l.i
+decreases-loop-i l = l.sheet.scene.m - l.i

@@ -16,7 +16,7 @@ pub named_slopes-row-requires : goal.named_slopes-row-requires
 named_slopes-row-requires c =
     let l = c.loop-j in
     let g = c.args in
-    let fit = passed_room g.sheet.now g.scene g.i l.j l.row (omega arith) l.invariant.1 (poses_in l.s g.p g.scene.m) (poses_in g.s.now g.p g.scene.m) in
+    let fit = passed_room g.sheet.bytes.now g.sheet.scene g.i l.j l.row (omega arith) l.invariant.1 (poses_in l.s g.p g.sheet.scene.m) (poses_in g.s.now g.p g.sheet.scene.m) in
     record { place_in_bounds = omega arith; room = rw (zero-add (l.row * 6)) at (room_next g.s.now l.s _ _ _ _ _ _ _ l.row _ l.invariant.2.size fit c.requires.room) }
 
 pub loop-j-preserved : goal.loop-j-preserved
@@ -24,10 +24,10 @@ loop-j-preserved c =
     let l = c.loop-j in
     let g = c.args in
     let y = c.named_slopes-row.ensures in
-    let w = mul-le-mul_right 6 (l.invariant.1.rows.among (poses_in g.s.now g.p g.scene.m)) in (
+    let w = mul-le-mul_right 6 (l.invariant.1.rows.among (poses_in g.s.now g.p g.sheet.scene.m)) in (
       omega arith,
-      passed_step g.sheet.now g.scene g.i l.j l.row (omega arith) l.invariant.1 _ _ y.next,
-      passed_slopes g.sheet.now g.scene g.i l.j l.row (omega arith) l.invariant.1 g.s.now l.s _ _ _ g.p _ (omega arith) l.invariant.2 y,
+      passed_step g.sheet.bytes.now g.sheet.scene g.i l.j l.row (omega arith) l.invariant.1 _ _ y.next,
+      passed_slopes g.sheet.bytes.now g.sheet.scene g.i l.j l.row (omega arith) l.invariant.1 g.s.now l.s _ _ _ g.p _ (omega arith) l.invariant.2 y,
     )
 
 pub shape_of-s : goal.shape_of-s
@@ -37,5 +37,5 @@ pub returns : goal.returns
 returns c =
     let l = c.loop-j in
     let g = c.args in
-    let e : l.j ≡ g.scene.k = omega arith in
-    record { count = passed_end g.sheet.now g.scene g.i (poses_in g.s.now g.p g.scene.m) l.j l.row e l.invariant.1; block = l.invariant.2 }
+    let e : l.j ≡ g.sheet.scene.k = omega arith in
+    record { count = passed_end g.sheet.bytes.now g.sheet.scene g.i (poses_in g.s.now g.p g.sheet.scene.m) l.j l.row e l.invariant.1; block = l.invariant.2 }

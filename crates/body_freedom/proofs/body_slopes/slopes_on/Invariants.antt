@@ -8,7 +8,7 @@ use Rattle.body_freedom.proofs.BodySlopeLaws.{Passed}
 use Rattle.body_freedom.proofs.body_slopes.slopes_on.Given as goal
 
 abbrev pub invariant-loop-j : goal.invariant-loop-j
-invariant-loop-j l = (l.j ≤ l.scene.k) × Passed l.sheet l.scene l.i l.j l.row × Block l.initial.s l.s 0 6 l.row 6 (moved_slope (rows_on (scene_of l.sheet l.scene) l.i) (poses_in l.initial.s l.p l.scene.m) l.i l.moved l.steps)
+invariant-loop-j l = (l.j ≤ l.sheet.scene.k) × Passed l.sheet.bytes.now l.sheet.scene l.i l.j l.row × Block l.initial.s l.s 0 6 l.row 6 (moved_slope (rows_on (scene_of l.sheet.bytes.now l.sheet.scene) l.i) (poses_in l.initial.s l.p l.sheet.scene.m) l.i l.moved l.steps)
 
 abbrev pub decreases-loop-j : goal.decreases-loop-j
-decreases-loop-j l = l.scene.k - l.j
+decreases-loop-j l = l.sheet.scene.k - l.j

@@ -3,27 +3,27 @@
 use mathlib.Core.Path.{◌∙◌}
 use native.Mathlib.Omega.{arith}
 use Rattle.scene.specs.Scene.{scene_of}
-use Rattle.rounds.proofs.RoundLaws.{arranged_same}
+use Rattle.rounds.proofs.RoundLaws.{arranged_same, arranged_within}
 use Rattle.by_rounds.proofs.EndLaws.{retry_stays, retry_goes}
 use Rattle.by_rounds.proofs.ends.end_retry.Goals as goal
 
 pub worked-requires : goal.worked-requires
-worked-requires c = record { laid = c.requires.laid; arranged = arranged_same c.better-kept.ensures.size c.requires.arranged }
+worked-requires c = record { scratch = (arranged_same c.better-kept.ensures.size (arranged_within c.args.solver.arranged c.requires.scratch)).poses }
 
 pub returns-then-kept : goal.returns-then-kept
 returns-then-kept c =
     let g = c.args in
-    retry_stays (scene_of g.sheet.now g.scene) g.scene g.p g.s.now _ g.g g.converged _ c.requires.arranged c.better-kept.ensures _ _ c.if-kept.true c.worked.ensures
+    retry_stays (scene_of g.solver.sheet.bytes.now g.solver.sheet.scene) g.solver.sheet.scene g.solver.parts g.s.now _ g.g g.converged _ (arranged_within c.args.solver.arranged c.requires.scratch) c.better-kept.ensures _ _ c.if-kept.true c.worked.ensures
 
 pub copy-requires : goal.copy-requires
 copy-requires c =
-    let a = arranged_same c.better-kept.ensures.size c.requires.arranged in
+    let a = arranged_same c.better-kept.ensures.size (arranged_within c.args.solver.arranged c.requires.scratch) in
     record { k_bound = omega (arith, a.first); k_in_bounds = omega (arith, a.first, a.x, a.slopes, a.matrix, a.weights, a.damped, a.right, a.rows, a.next, a.ahead, a.poses) }
 
 pub worked-requires-2 : goal.worked-requires-2
-worked-requires-2 c = record { laid = c.requires.laid; arranged = arranged_same (c.copy.ensures.kept.size ∙ c.better-kept.ensures.size) c.requires.arranged }
+worked-requires-2 c = record { scratch = (arranged_same (c.copy.ensures.kept.size ∙ c.better-kept.ensures.size) (arranged_within c.args.solver.arranged c.requires.scratch)).poses }
 
 pub returns : goal.returns
 returns c =
     let g = c.args in
-    retry_goes (scene_of g.sheet.now g.scene) g.scene g.p g.s.now _ g.g g.converged _ c.requires.arranged c.better-kept.ensures _ _ _ c.if-kept.false c.copy.ensures c.worked-2.ensures
+    retry_goes (scene_of g.solver.sheet.bytes.now g.solver.sheet.scene) g.solver.sheet.scene g.solver.parts g.s.now _ g.g g.converged _ (arranged_within c.args.solver.arranged c.requires.scratch) c.better-kept.ensures _ _ _ c.if-kept.false c.copy.ensures c.worked-2.ensures

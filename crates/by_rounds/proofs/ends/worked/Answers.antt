@@ -1,4 +1,5 @@
 -- `by_rounds::ends::worked`: `rows_at` writes the rows at `rows`, and what stands before them is as it was (`worked_is`). Assumes nothing.
+use Rattle.rounds.proofs.RoundLaws.{arranged_within}
 use Rattle.scene.specs.Scene.{scene_of}
 use Rattle.by_rounds.proofs.EndLaws.{worked_is}
 use Rattle.by_rounds.proofs.ends.worked.Goals as goal
@@ -6,4 +7,4 @@ use Rattle.by_rounds.proofs.ends.worked.Goals as goal
 pub returns : goal.returns
 returns c =
     let g = c.args in
-    worked_is (scene_of g.sheet.now g.scene) g.scene g.p g.s.now _ c.requires.arranged c.rows_at.ensures g.g
+    worked_is (scene_of g.solver.sheet.bytes.now g.solver.sheet.scene) g.solver.sheet.scene g.solver.parts g.s.now _ (arranged_within c.args.solver.arranged c.requires.scratch) c.rows_at.ensures g.g

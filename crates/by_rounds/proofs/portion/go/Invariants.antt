@@ -6,7 +6,7 @@ use Rattle.by_rounds.proofs.GoLaws.{Gone}
 use Rattle.by_rounds.proofs.portion.go.Given as goal
 
 abbrev pub invariant-loop-i : goal.invariant-loop-i
-invariant-loop-i l = Gone (scene_of l.sheet l.scene) l.scene l.p (parameters_of l.q) l.initial.s l.s l.initial.e l.e l.portion l.i l.made × ((l.i ≤ l.portion) × (l.made ≤ l.i))
+invariant-loop-i l = Gone (scene_of l.solver.sheet.bytes.now l.solver.sheet.scene) l.solver.sheet.scene l.solver.parts (parameters_of l.q) l.initial.s l.s l.initial.e l.e l.portion l.i l.made × ((l.i ≤ l.portion) × (l.made ≤ l.i))
 
 abbrev pub decreases-loop-i : goal.decreases-loop-i
 decreases-loop-i l = l.portion - l.i

@@ -6,31 +6,13 @@ use native.Mathlib.Numerals.{add-one}
 use lib.ListN.{length, length-set, drop_of_length-le}
 use mathlib.Core.List.{[], append-nil}
 use Rattle.eigen.specs.EigenMemory.{diagonal}
-use Rattle.eigen.proofs.EigenLaws.{row_within, write_next, length_grows}
+use Rattle.eigen.proofs.EigenLaws.{write_next, length_grows}
 use Rattle.eigen.proofs.EigenSortLaws.{diagonal_grows}
 use Rattle.eigen.proofs.eigen.diagonal.Goals as goal
 
 pub loop-i-init : goal.loop-i-init
 unfolding diagonal
 loop-i-init c = (omega arith, refl, refl)
-
-pub overflow_mul-vals : goal.overflow_mul-vals
-overflow_mul-vals c = omega (arith, row_within c.loop-i-test.true)
-
-pub overflow_add-vals : goal.overflow_add-vals
-overflow_add-vals c = omega (arith, row_within c.loop-i-test.true)
-
-pub offset_bounds-m-i : goal.offset_bounds-m-i
-offset_bounds-m-i c = omega (arith, row_within c.loop-i-test.true)
-
-pub bounds-m-i : goal.bounds-m-i
-bounds-m-i c = omega (arith, row_within c.loop-i-test.true)
-
-pub offset_bounds-vals-i : goal.offset_bounds-vals-i
-offset_bounds-vals-i c = omega (arith, row_within c.loop-i-test.true)
-
-pub bounds-vals-i : goal.bounds-vals-i
-bounds-vals-i c = omega (arith, row_within c.loop-i-test.true)
 
 pub loop-i-preserved : goal.loop-i-preserved
 unfolding diagonal

@@ -7,6 +7,3 @@ use Rattle.eigen.proofs.eigen.sweep_row.Given as goal
 
 abbrev pub invariant-loop-q : goal.invariant-loop-q
 invariant-loop-q l = (l.p + 1 ≤ l.q) × (l.q ≤ l.n) × (length l.m ≡ length l.initial.m) × (length l.v ≡ length l.initial.v) × (turned l.m l.v ≡ sweep_row l.n l.p (turned l.initial.m l.initial.v) (l.q - (l.p + 1)))
-
-abbrev pub decreases-loop-q : goal.decreases-loop-q
-decreases-loop-q l = l.n - l.q

@@ -8,6 +8,3 @@ use Rattle.eigen.proofs.eigen.sweeps.Given as goal
 
 abbrev pub invariant-loop-i : goal.invariant-loop-i
 invariant-loop-i l = (l.i ≤ 100) × (length l.m ≡ length l.initial.m) × (length l.v ≡ length l.initial.v) × (sweeps l.n (100 - l.i) (turned l.m l.v) ≡ sweeps l.n 100 (turned l.initial.m l.initial.v))
-
-abbrev pub decreases-loop-i : goal.decreases-loop-i
-decreases-loop-i l = 100 - l.i

@@ -13,9 +13,6 @@ pub loop-i-init : goal.loop-i-init
 unfolding unit_to
 loop-i-init c = (omega arith, refl, rw (zero-mul))
 
-pub overflow_mul-i : goal.overflow_mul-i
-overflow_mul-i c = omega (arith, row_within c.loop-i-test.true)
-
 pub unit_row-requires : goal.unit_row-requires
 unit_row-requires c = omega (arith, row_within c.loop-i-test.true)
 

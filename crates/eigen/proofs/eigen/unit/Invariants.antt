@@ -1,6 +1,6 @@
 -- `eigen::unit` meets its contract. The loop's invariant: the first i rows are written. Assumes nothing.
 use mathlib.Core.Path.{◌≡◌}
-use Prim.Native.Nat.{◌*◌, ◌-◌, ◌≤◌}
+use Prim.Native.Nat.{◌*◌, ◌≤◌}
 use lib.ListN.{length, drop}
 use mathlib.Core.List.{◌++◌}
 use Rattle.eigen.specs.Eigen.{unit_to}
@@ -8,6 +8,3 @@ use Rattle.eigen.proofs.eigen.unit.Given as goal
 
 abbrev pub invariant-loop-i : goal.invariant-loop-i
 invariant-loop-i l = (l.i ≤ l.n) × (length l.v ≡ length l.initial.v) × (l.v ≡ unit_to l.n l.i ++ drop (l.i * l.n) l.initial.v)
-
-abbrev pub decreases-loop-i : goal.decreases-loop-i
-decreases-loop-i l = l.n - l.i

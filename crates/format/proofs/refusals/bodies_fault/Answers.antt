@@ -1,17 +1,18 @@
--- `format::refusals::bodies_fault` meets its contract. The invariant: at most m bodies are passed, and the number held is the first fault among them; one more body is
--- one more step of the definition (`bodies_more`). The measure is the bodies to come; at the end none are, and the number is that of all m. Assumes nothing.
-use mathlib.Core.Path.{◌≡◌, refl, ◌∙◌}
-use native.Mathlib.Omega.{arith}
-use Rattle.format.proofs.RefusalLaws.{bodies_more}
+-- `format::refusals::bodies_fault` meets its contract: one more body is one more test in a row (`bodies_in_row`). Assumes nothing.
+use Rattle.std.proofs.Common.{◌≡◌, rules}
+use Rattle.faults.specs.Fault.{number}
 use Rattle.format.specs.Faults.{bodies_fault}
+use Rattle.format.proofs.RefusalLaws.{bodies_in_row, pass_more, refuses_at}
 use Rattle.format.proofs.refusals.bodies_fault.Goals as goal
 
 pub loop-i-init : goal.loop-i-init
-unfolding bodies_fault
-loop-i-init c = (omega arith, refl)
+loop-i-init c = (bodies_in_row _).none_yet
+
+pub returns-in_err-body_fault : goal.returns-in_err-body_fault
+returns-in_err-body_fault c =
+    let e : number c.in_err-body_fault.field-0.0 ≡ bodies_fault c.args.s.now c.args.m =
+    refuses_at _ _ (bodies_in_row c.args.s.now) _ c.loop-i.i c.args.m c.loop-i.invariant c.in_err-body_fault.ensures c.loop-i-test.true in
+    search rules
 
 pub loop-i-preserved : goal.loop-i-preserved
-loop-i-preserved c = (omega arith, c.or_else-fault.ensures ∙ bodies_more _ _ _ _ c.loop-i.invariant.1 c.body_fault.ensures)
-
-pub returns : goal.returns
-returns c = let e : c.loop-i.i ≡ c.args.m = omega arith in c.loop-i.invariant.1 ∙ rw e
+loop-i-preserved c = pass_more _ _ (bodies_in_row c.args.s.now) c.loop-i.i c.loop-i.invariant (search rules)

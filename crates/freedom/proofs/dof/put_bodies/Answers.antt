@@ -7,7 +7,7 @@ use Rattle.freedom.proofs.DofLaws.{none_passed, one_passed, all_passed}
 use Rattle.freedom.proofs.dof.put_bodies.Goals as goal
 
 pub put_starts-requires : goal.put_starts-requires
-put_starts-requires c = record { laid = c.requires.laid; m_in_bounds = (body_apart c.args.scene _ _ c.body_parts-parts.ensures c.requires.scene_in_bounds).poses }
+put_starts-requires c = record { m_in_bounds = (body_apart c.args.sheet.scene _ _ c.body_parts-parts.ensures c.requires.scene_in_bounds).poses }
 
 pub loop-i-init : goal.loop-i-init
 loop-i-init c = none_passed _ _ _ _ _ _ c.put_starts.ensures
@@ -19,7 +19,7 @@ put_body-requires c =
     let w = v.filled.kept.size in
     let h = c.loop-i-test.true in
     let p = body_apart _ _ _ c.body_parts-parts.ensures c.requires.scene_in_bounds in
-    record { laid = c.requires.laid; i_lt_m = (h, omega (arith, h, w, c.requires.m_in_bounds)); body_apart = still_apart _ _ _ _ z p; m_value = v.poses; rows_bound = c.requires.rows_bound.0 }
+    record { i_lt_m = (h, omega (arith, h, w, c.requires.m_in_bounds)); body_apart = still_apart _ _ _ _ z p; m_value = v.poses }
 
 pub loop-i-preserved : goal.loop-i-preserved
 loop-i-preserved c = one_passed _ _ _ _ _ _ _ _ _ _ c.loop-i-test.true c.loop-i.invariant c.put_body.ensures

@@ -5,7 +5,7 @@ use Rattle.freedom.proofs.DofLaws.{Passed}
 use Rattle.freedom.proofs.dof.put_bodies.Given as goal
 
 abbrev pub invariant-loop-i : goal.invariant-loop-i
-invariant-loop-i l = Passed l.sheet l.scene l.initial.s l.s l.initial.freedoms l.freedoms l.parts.poses l.i
+invariant-loop-i l = Passed l.sheet.bytes.now l.sheet.scene l.initial.s l.s l.initial.freedoms l.freedoms l.parts.poses l.i
 
 abbrev pub decreases-loop-i : goal.decreases-loop-i
-decreases-loop-i l = l.scene.m - l.i
+decreases-loop-i l = l.sheet.scene.m - l.i

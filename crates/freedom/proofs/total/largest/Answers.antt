@@ -7,18 +7,18 @@ use lib.ListN.{length, drop}
 use Rattle.freedom.specs.Total.{largest_of}
 use Rattle.freedom.proofs.total.largest.Goals as goal
 
-pub loop-i-init : goal.loop-i-init
-loop-i-init c = (omega arith, omega arith, refl)
+pub loop-v-init : goal.loop-v-init
+loop-v-init c = (omega arith, refl)
 
-pub loop-i-preserved : goal.loop-i-preserved
-loop-i-preserved c =
-    let l = c.loop-i in
+pub loop-v-preserved : goal.loop-v-preserved
+loop-v-preserved c =
+    let l = c.loop-v in
     let v = c.args.vals.now in
-    (omega arith, omega arith, ap (λ m. largest_of m (drop (l.i + 1) v)) c.max-m.ensures ∙ sym (largest_step l.m v l.i (omega arith)) ∙ l.invariant.2)
+    (omega arith, ap (λ m. largest_of m (drop (l.v-index + 1) v)) c.max-m.ensures ∙ sym (largest_step l.m v l.v-index (omega arith)) ∙ l.invariant.1)
 
 pub returns : goal.returns
 returns c =
-    let l = c.loop-i in
+    let l = c.loop-v in
     let v = c.args.vals.now in
-    let e : l.i ≡ length v = omega arith in
-    sym (largest_done l.m v l.i e) ∙ l.invariant.2
+    let e : l.v-index ≡ length v = omega arith in
+    sym (largest_done l.m v l.v-index e) ∙ l.invariant.1

@@ -10,13 +10,13 @@ pub loop-i-init : goal.loop-i-init
 loop-i-init c = (omega arith, kept_refl _ _ _, refl)
 
 pub scale_body-requires : goal.scale_body-requires
-scale_body-requires c = let z = c.loop-i.invariant.1.size in record { laid = c.requires.laid; i_lt_m = omega arith; n_in_bounds = omega arith }
+scale_body-requires c = let z = c.loop-i.invariant.1.size in record { i_lt_m = omega arith; n_in_bounds = omega arith }
 
 pub loop-i-preserved : goal.loop-i-preserved
 loop-i-preserved c =
     let g = c.args in
     let l = c.loop-i in
-    let r = scaled_step g.sheet.now g.scene g.s.now l.s _ g.z l.i _ c.requires.laid (omega arith) l.invariant.1 l.invariant.2 c.scale_body.ensures in
+    let r = scaled_step g.sheet.bytes.now g.sheet.scene g.s.now l.s _ g.z l.i _ c.args.sheet.laid (omega arith) l.invariant.1 l.invariant.2 c.scale_body.ensures in
     (omega arith, r.0, r.1)
 
 pub shape_of-s : goal.shape_of-s
@@ -26,5 +26,5 @@ pub returns : goal.returns
 returns c =
     let g = c.args in
     let l = c.loop-i in
-    let e : l.i ≡ g.scene.m = omega arith in
-    record { holds = sym (scaled_done g.sheet.now g.scene (part l.s g.z g.scene.n) l.i e) ∙ l.invariant.2; kept = l.invariant.1 }
+    let e : l.i ≡ g.sheet.scene.m = omega arith in
+    record { holds = sym (scaled_done g.sheet.bytes.now g.sheet.scene (part l.s g.z g.sheet.scene.n) l.i e) ∙ l.invariant.2; kept = l.invariant.1 }

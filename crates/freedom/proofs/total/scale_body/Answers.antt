@@ -1,10 +1,11 @@
 -- `freedom::total::scale_body`: half the size is that of the body's record, and by it the body's turning unknowns are scaled. Assumes nothing.
-use mathlib.Core.Path.{refl, ap, subst, ◌∙◌}
+use mathlib.Core.Path.{ap, subst, ◌∙◌}
 use native.Mathlib.Omega.{arith}
 use lib.ListN.{get_or}
 use lib.Ieee.{Float}
 use Rattle.least_squares.specs.Memory.{part}
 use Rattle.relations.specs.Model.{Body}
+use Rattle.std.specs.Prelude.{None}
 use Rattle.scene.specs.Scene.{first_unknown, Put}
 use Rattle.scene.specs.Solve.{half_size}
 use Rattle.scene.proofs.SceneLaws.{laid_first}
@@ -12,11 +13,11 @@ use Rattle.freedom.specs.Total.{scaled_by}
 use Rattle.freedom.proofs.total.scale_body.Goals as goal
 
 pub scale_turns-requires : goal.scale_turns-requires
-scale_turns-requires c = record { n_in_bounds = omega arith; first_bound = λ n. laid_first c.args.sheet.now c.args.scene c.args.i _ c.requires.laid (omega arith) refl n }
+scale_turns-requires c = record { n_in_bounds = omega arith; first_bound = λ k e. laid_first c.args.sheet.bytes.now c.args.sheet.scene c.args.i k c.args.sheet.laid (omega arith) e }
 
 pub returns : goal.returns
 returns c =
     let g = c.args in
-    let e = c.half_size-l.ensures ∙ ap (λ (b : Body). half_size b.size) c.body_at-b.ensures in
-    subst (λ (l : Float). Put g.s.now c.scale_turns.new.s g.z g.scene.n (scaled_by (part g.s.now g.z g.scene.n) l (first_unknown (get_or g.scene.index g.i 0)))) e
+    let e = c.half_size-l.ensures ∙ ap (λ (b : Body). half_size b.size) c.body-b.ensures in
+    subst (λ (l : Float). Put g.s.now c.scale_turns.new.s g.z g.sheet.scene.n (scaled_by (part g.s.now g.z g.sheet.scene.n) l (first_unknown (get_or g.sheet.scene.index g.i None)))) e
     c.scale_turns.ensures

@@ -9,11 +9,11 @@ pub named_columns-requires : goal.named_columns-requires
 named_columns-requires c =
     let g = c.args in
     let apart = c.requires.total_apart in
-    let z = c.moved_poses.ensures.kept.size in record { laid = c.requires.laid; room = record { body = c.requires.i_lt_m.0; poses = apart.poses; twelve = omega arith; wide = omega arith; below = omega arith }; clear = six_clear (scene_of g.sheet.now g.scene) g.scene g.parts g.s.now g.k c.requires.i_lt_m.1 c.requires.waiting; steps = six_still _ c.six_steps.ensures }
+    let z = c.moved_poses.ensures.kept.size in record { room = record { body = c.requires.i_lt_m.0; poses = apart.poses; twelve = omega arith; wide = omega arith; below = omega arith }; clear = six_clear (scene_of g.sheet.bytes.now g.sheet.scene) g.sheet.scene g.parts g.s.now g.k c.requires.i_lt_m.1 c.requires.waiting; steps = six_still _ c.six_steps.ensures }
 
 pub returns : goal.returns
 returns c =
     let g = c.args in
-    six_columns_is g.sheet.now g.scene g.i g.k c.requires.laid c.requires.i_lt_m.0 c.requires.none_value c.requires.i_lt_m.1 g.parts g.s.now _ _ _ _ _ c.body_at-b.ensures c.requires.waiting c.moved_poses.ensures
+    six_columns_is g.sheet.bytes.now g.sheet.scene g.i g.k c.args.sheet.laid c.requires.i_lt_m.0 c.requires.none_value c.requires.i_lt_m.1 g.parts g.s.now _ _ _ _ _ c.body-b.ensures c.requires.waiting c.moved_poses.ensures
     c.six_steps.ensures
     c.named_columns.ensures

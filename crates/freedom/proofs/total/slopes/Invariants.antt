@@ -9,7 +9,7 @@ use Rattle.freedom.proofs.ColumnLaws.{Sloped}
 use Rattle.freedom.proofs.total.slopes.Given as goal
 
 abbrev pub invariant-loop-i : goal.invariant-loop-i
-invariant-loop-i l = (l.i ≤ l.scene.m) × (length l.s ≡ length l.initial.s) × Sloped (scene_of l.sheet l.scene) l.scene l.parts l.s (given (scene_of l.sheet l.scene) l.i)
+invariant-loop-i l = (l.i ≤ l.sheet.scene.m) × (length l.s ≡ length l.initial.s) × Sloped (scene_of l.sheet.bytes.now l.sheet.scene) l.sheet.scene l.parts l.s (given (scene_of l.sheet.bytes.now l.sheet.scene) l.i)
 
 abbrev pub decreases-loop-i : goal.decreases-loop-i
-decreases-loop-i l = l.scene.m - l.i
+decreases-loop-i l = l.sheet.scene.m - l.i

@@ -7,7 +7,7 @@ use Rattle.body_freedom.specs.Dof.{unnamed_from}
 use Rattle.freedom.proofs.total.unnamed.Given as goal
 
 abbrev pub invariant-loop-i : goal.invariant-loop-i
-invariant-loop-i l = (l.i ≤ l.scene.m) × (l.count ≤ 6 * l.i) × (l.count + rest_unnamed l.sheet l.scene l.i ≡ unnamed_from (scene_of l.sheet l.scene).rels 0 (scene_of l.sheet l.scene).bodies)
+invariant-loop-i l = (l.i ≤ l.sheet.scene.m) × (l.count ≤ 6 * l.i) × (l.count + rest_unnamed l.sheet.bytes.now l.sheet.scene l.i ≡ unnamed_from (scene_of l.sheet.bytes.now l.sheet.scene).rels 0 (scene_of l.sheet.bytes.now l.sheet.scene).bodies)
 
 abbrev pub decreases-loop-i : goal.decreases-loop-i
-decreases-loop-i l = l.scene.m - l.i
+decreases-loop-i l = l.sheet.scene.m - l.i

@@ -1,9 +1,8 @@
 -- `freedom::values::diagonal`: each entry is copied to its place behind the matrix, which is not written. The loop's invariant: the first i entries are copied. Assumes nothing.
 use Rattle.freedom.proofs.ValueLaws.{diagonal_step}
 use mathlib.Core.Path.{◌≡◌, refl}
-use Prim.Native.Nat.{◌+◌, ◌*◌, ◌≤◌}
+use Prim.Native.Nat.{◌+◌, ◌*◌}
 use native.Mathlib.Omega.{arith}
-use lib.ListN.{length}
 use Rattle.eigen.specs.EigenMemory.{diagonal}
 use Rattle.eigen.proofs.EigenLaws.{row_within}
 use Rattle.least_squares.proofs.MemoryLaws.{kept_refl, kept_set}

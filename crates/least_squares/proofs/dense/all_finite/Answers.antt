@@ -1,38 +1,21 @@
--- `all_finite` is `all_finite` of the part. The loop's invariant: all is finite exactly where what is left is. Assumes nothing.
-use mathlib.Core.Path.{◌≡◌}
-use Prim.Native.Nat.{suc, ◌+◌, ◌-◌}
-use native.Mathlib.Omega.{arith}
+-- `all_finite` is `all_finite` of the definitions: both ask each double in turn. Assumes nothing.
+use mathlib.Core.Path.{◌≡◌, refl, ap, ◌∙◌}
+use mathlib.Core.Bool.{◌&&◌}
+use mathlib.Core.List.{List, [], ◌∷◌}
+use lib.Ieee.{Float}
+use Rattle.std.proofs.Common.{rules, tests}
+use Rattle.std.specs.List.{list_all}
+use Rattle.std.proofs.lemmas.Iterator.{YieldsList-from_slice}
+use Rattle.std.proofs.lemmas.Iterator.Search.{all_from_yields_List}
+use Rattle.numbers.specs.Double.{is_finite}
 use Rattle.least_squares.specs.Lm.{all_finite}
-use Rattle.least_squares.proofs.DenseLaws.{finite_next}
 use Rattle.least_squares.proofs.dense.all_finite.Goals as goal
 
-pub loop-k-init : goal.loop-k-init
-loop-k-init c =
-    let a = c.args in
-    let e : a.o + 0 ≡ a.o = omega arith in
-    let g : a.n - 0 ≡ a.n = omega arith in
-    (omega arith, rw (e, g))
-
-pub returns-then-not-is_finite : goal.returns-then-not-is_finite
-returns-then-not-is_finite c =
-    let a = c.args in
-    let g : a.n - c.loop-k.k ≡ suc (a.n - (c.loop-k.k + 1)) = omega arith in
-    let t = c.if-not-is_finite.true in
-    let x = finite_next a.s.now (a.o + c.loop-k.k) (a.n - (c.loop-k.k + 1)) (omega arith) in
-    rw (g, x, ← c.is_finite.ensures, t) at c.loop-k.invariant.1
-
-pub loop-k-preserved : goal.loop-k-preserved
-loop-k-preserved c =
-    let a = c.args in
-    let e : a.o + (c.loop-k.k + 1) ≡ suc (a.o + c.loop-k.k) = omega arith in
-    let g : a.n - c.loop-k.k ≡ suc (a.n - (c.loop-k.k + 1)) = omega arith in
-    let t = c.if-not-is_finite.false in
-    let x = finite_next a.s.now (a.o + c.loop-k.k) (a.n - (c.loop-k.k + 1)) (omega arith) in
-    (omega arith, rw (g, x, ← c.is_finite.ensures, t, ← e) at c.loop-k.invariant.1)
+asks_all : (l : List Float) → list_all is_finite l ≡ all_finite l
+unfolding all_finite
+asks_all [] = refl
+asks_all (x ∷ l) = ap (λ b. is_finite x && b) (asks_all l)
 
 pub returns : goal.returns
-unfolding all_finite
 returns c =
-    let a = c.args in
-    let e : a.n - c.loop-k.k ≡ 0 = omega arith in
-    rw e at c.loop-k.invariant.1
+    all_from_yields_List is_finite _ _ _ c.all.ensures.ran (YieldsList-from_slice c.args.s.now cc) (λ x b q k. search (rules, tests)) ∙ asks_all c.args.s.now

@@ -1,11 +1,10 @@
 -- `back` is `back_to`. The loop's invariant: memory holds the system with the last k unknowns found. Assumes nothing.
 use mathlib.Core.Path.{◌≡◌, refl, subst}
-use Prim.Native.Nat.{ℕ, ◌+◌, ◌-◌}
+use Prim.Native.Nat.{ℕ}
 use native.Mathlib.Omega.{arith}
 use native.Mathlib.Numerals.{add-one}
 use Rattle.least_squares.specs.Lm.{back_to}
 use Rattle.least_squares.specs.Dense.{system_at, Became}
-use Rattle.least_squares.proofs.TableLaws.{in_rows}
 use Rattle.least_squares.proofs.MemoryLaws.{kept_refl}
 use Rattle.least_squares.proofs.DenseLaws.{backed}
 use Rattle.least_squares.proofs.dense.back.Goals as goal
@@ -13,30 +12,6 @@ use Rattle.least_squares.proofs.dense.back.Goals as goal
 pub loop-k-init : goal.loop-k-init
 unfolding back_to
 loop-k-init c = (omega arith, record { system = refl; kept = kept_refl _ 0 _ })
-
-pub overflow_mul-s : goal.overflow_mul-s
-overflow_mul-s c =
-    let n = c.args.n in
-    let r = n - (c.loop-k.k + 1) in
-    omega (arith, in_rows r r n n (omega arith) (omega arith))
-
-pub overflow_add-s : goal.overflow_add-s
-overflow_add-s c =
-    let n = c.args.n in
-    let r = n - (c.loop-k.k + 1) in
-    omega (arith, in_rows r r n n (omega arith) (omega arith))
-
-pub offset_bounds-s-r : goal.offset_bounds-s-r
-offset_bounds-s-r c =
-    let n = c.args.n in
-    let r = n - (c.loop-k.k + 1) in
-    omega (arith, in_rows r r n n (omega arith) (omega arith))
-
-pub bounds-s-r : goal.bounds-s-r
-bounds-s-r c =
-    let n = c.args.n in
-    let r = n - (c.loop-k.k + 1) in
-    omega (arith, in_rows r r n n (omega arith) (omega arith))
 
 pub loop-k-preserved : goal.loop-k-preserved
 loop-k-preserved c =

@@ -6,6 +6,3 @@ use Rattle.least_squares.proofs.dense.clear_below.Given as goal
 
 abbrev pub invariant-loop-r : goal.invariant-loop-r
 invariant-loop-r l = (l.col + 1 ≤ l.r) × (l.r ≤ l.n) × Became l.initial.s l.s l.n (clear_to (system_at l.initial.s l.n) l.n l.col (l.r - (l.col + 1)))
-
-abbrev pub decreases-loop-r : goal.decreases-loop-r
-decreases-loop-r l = l.n - l.r

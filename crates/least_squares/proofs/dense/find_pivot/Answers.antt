@@ -7,7 +7,7 @@ use lib.ListN.{get_or}
 use lib.Ieee.{nan}
 use Rattle.numbers.proofs.DoubleLaws.{lt_asym}
 use Rattle.least_squares.specs.Lm.{pivot_to}
-use Rattle.least_squares.proofs.DenseLaws.{row_fits, magnitude_below, pivot_taken, pivot_left}
+use Rattle.least_squares.proofs.DenseLaws.{magnitude_below, pivot_taken, pivot_left}
 use Rattle.least_squares.proofs.dense.find_pivot.Goals as goal
 use Rattle.least_squares.proofs.dense.find_pivot.Goals.{then-v-best, else-v-best}
 
@@ -16,18 +16,6 @@ unfolding pivot_to
 loop-r-init c =
     let e : c.args.col - c.args.col ≡ 0 = omega arith in
     (omega arith, omega arith, rw e, rw e)
-
-pub overflow_mul-x : goal.overflow_mul-x
-overflow_mul-x c = omega (arith, row_fits c.loop-r.r c.args.n (omega arith))
-
-pub overflow_add-x : goal.overflow_add-x
-overflow_add-x c = omega (arith, row_fits c.loop-r.r c.args.n (omega arith))
-
-pub offset_bounds-s-r : goal.offset_bounds-s-r
-offset_bounds-s-r c = omega (arith, row_fits c.loop-r.r c.args.n (omega arith))
-
-pub bounds-s-r : goal.bounds-s-r
-bounds-s-r c = omega (arith, row_fits c.loop-r.r c.args.n (omega arith))
 
 pub loop-r-preserved-then-below : goal.loop-r-preserved-then-below
 loop-r-preserved-then-below c =

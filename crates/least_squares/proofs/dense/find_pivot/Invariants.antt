@@ -6,6 +6,3 @@ use Rattle.least_squares.proofs.dense.find_pivot.Given as goal
 
 abbrev pub invariant-loop-r : goal.invariant-loop-r
 invariant-loop-r l = (l.col ≤ l.r) × (l.r ≤ l.n) × (l.best ≡ (pivot_to l.s l.n l.col (l.r - l.col)).best) × (l.row ≡ (pivot_to l.s l.n l.col (l.r - l.col)).row)
-
-abbrev pub decreases-loop-r : goal.decreases-loop-r
-decreases-loop-r l = l.n - l.r

@@ -2,26 +2,14 @@
 use mathlib.Core.Path.{◌≡◌, sym}
 use Prim.Native.Nat.{suc, ◌+◌, ◌-◌}
 use native.Mathlib.Omega.{arith}
-use Rattle.least_squares.proofs.DenseLaws.{row_fits, rest_first, rest_next}
+use Rattle.least_squares.proofs.DenseLaws.{rest_first, rest_next}
 use Rattle.least_squares.proofs.dense.rest.Goals as goal
-
-pub overflow_mul-ro : goal.overflow_mul-ro
-overflow_mul-ro c = omega (arith, row_fits c.args.r c.args.n (omega arith))
 
 pub loop-c-init : goal.loop-c-init
 loop-c-init c =
     let a = c.args in
     let e : a.r + 1 - (a.r + 1) ≡ 0 = omega arith in
     (omega arith, omega arith, rw e (sym (rest_first a.s.now a.n a.r (omega arith))))
-
-pub overflow_add-t-in-loop-c : goal.overflow_add-t-in-loop-c
-overflow_add-t-in-loop-c c = omega (arith, row_fits c.args.r c.args.n (omega arith))
-
-pub offset_bounds-s-ro : goal.offset_bounds-s-ro
-offset_bounds-s-ro c = omega (arith, row_fits c.args.r c.args.n (omega arith))
-
-pub bounds-s-ro : goal.bounds-s-ro
-bounds-s-ro c = omega (arith, row_fits c.args.r c.args.n (omega arith))
 
 pub loop-c-preserved : goal.loop-c-preserved
 loop-c-preserved c =

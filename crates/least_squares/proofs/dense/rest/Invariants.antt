@@ -7,6 +7,3 @@ use Rattle.least_squares.proofs.dense.rest.Given as goal
 
 abbrev pub invariant-loop-c : goal.invariant-loop-c
 invariant-loop-c l = (l.r + 1 ≤ l.c) × (l.c ≤ l.n) × (l.t ≡ rest_to (system_at l.s l.n) l.n l.r (l.c - (l.r + 1)))
-
-abbrev pub decreases-loop-c : goal.decreases-loop-c
-decreases-loop-c l = l.n - l.c

@@ -1,12 +1,7 @@
 -- `swap_rows` is `swap_to` on all of memory. The loop's invariant: the first k entries are exchanged. Assumes nothing.
 use mathlib.Core.Path.{◌≡◌}
-use Prim.Native.Nat.{◌-◌, ◌≤◌}
-use lib.ListN.{length}
 use Rattle.least_squares.specs.Lm.{swap_to}
 use Rattle.least_squares.proofs.dense.swap_rows.Given as goal
 
 abbrev pub invariant-loop-k : goal.invariant-loop-k
-invariant-loop-k l = (l.k ≤ l.n) × (length l.s ≡ length l.initial.s) × (l.s ≡ swap_to l.initial.s l.n l.p l.col l.k)
-
-abbrev pub decreases-loop-k : goal.decreases-loop-k
-decreases-loop-k l = l.n - l.k
+invariant-loop-k l = l.s ≡ swap_to l.initial.s l.n l.p l.col l.k

@@ -7,6 +7,3 @@ use Rattle.least_squares.proofs.dense.take_off.Given as goal
 
 abbrev pub invariant-loop-k : goal.invariant-loop-k
 invariant-loop-k l = (l.col ≤ l.k) × (l.k ≤ l.n) × (length l.s ≡ length l.initial.s) × (l.s ≡ take_off_to l.initial.s l.n l.r l.col l.f (l.k - l.col))
-
-abbrev pub decreases-loop-k : goal.decreases-loop-k
-decreases-loop-k l = l.n - l.k

@@ -14,36 +14,6 @@ pub loop-i-init : goal.loop-i-init
 unfolding damp_to
 loop-i-init c = (omega arith, kept_refl _ _ _, refl)
 
-pub overflow_mul-s : goal.overflow_mul-s
-overflow_mul-s c = omega (arith, in_rows c.loop-i.i c.loop-i.i c.args.rows c.args.rows (omega arith) (omega arith))
-
-pub overflow_add-s : goal.overflow_add-s
-overflow_add-s c = omega (arith, in_rows c.loop-i.i c.loop-i.i c.args.rows c.args.rows (omega arith) (omega arith))
-
-pub overflow_add-s-in-loop-i : goal.overflow_add-s-in-loop-i
-overflow_add-s-in-loop-i c = omega (arith, in_rows c.loop-i.i c.loop-i.i c.args.rows c.args.rows (omega arith) (omega arith))
-
-pub offset_bounds-s-a : goal.offset_bounds-s-a
-offset_bounds-s-a c = omega (arith, in_rows c.loop-i.i c.loop-i.i c.args.rows c.args.rows (omega arith) (omega arith))
-
-pub bounds-s-a : goal.bounds-s-a
-bounds-s-a c = omega (arith, in_rows c.loop-i.i c.loop-i.i c.args.rows c.args.rows (omega arith) (omega arith))
-
-pub overflow_mul-s-in-loop-i : goal.overflow_mul-s-in-loop-i
-overflow_mul-s-in-loop-i c = omega (arith, in_rows c.loop-i.i c.loop-i.i c.args.rows c.args.rows (omega arith) (omega arith))
-
-pub overflow_add-s-in-loop-i-2 : goal.overflow_add-s-in-loop-i-2
-overflow_add-s-in-loop-i-2 c = omega (arith, in_rows c.loop-i.i c.loop-i.i c.args.rows c.args.rows (omega arith) (omega arith))
-
-pub overflow_add-s-in-loop-i-3 : goal.overflow_add-s-in-loop-i-3
-overflow_add-s-in-loop-i-3 c = omega (arith, in_rows c.loop-i.i c.loop-i.i c.args.rows c.args.rows (omega arith) (omega arith))
-
-pub offset_bounds-s-a-in-loop-i : goal.offset_bounds-s-a-in-loop-i
-offset_bounds-s-a-in-loop-i c = omega (arith, in_rows c.loop-i.i c.loop-i.i c.args.rows c.args.rows (omega arith) (omega arith))
-
-pub bounds-s-a-in-loop-i : goal.bounds-s-a-in-loop-i
-bounds-s-a-in-loop-i c = omega (arith, in_rows c.loop-i.i c.loop-i.i c.args.rows c.args.rows (omega arith) (omega arith))
-
 pub loop-i-preserved : goal.loop-i-preserved
 unfolding damp_to
 loop-i-preserved c =

@@ -3,11 +3,8 @@
 use Rattle.least_squares.specs.Lm.{damp_to}
 use Rattle.least_squares.specs.Memory.{part, Kept}
 use mathlib.Core.Path.{◌≡◌}
-use Prim.Native.Nat.{◌+◌, ◌*◌, ◌≤◌, ◌-◌}
+use Prim.Native.Nat.{◌+◌, ◌*◌, ◌≤◌}
 use Rattle.least_squares.proofs.lm.damp.Given as goal
 
 abbrev pub invariant-loop-i : goal.invariant-loop-i
 invariant-loop-i l = (l.i ≤ l.rows) × Kept l.initial.s l.s l.a (l.a + l.rows * l.rows) × (part l.s l.a (l.rows * l.rows) ≡ damp_to (part l.initial.s l.a (l.rows * l.rows)) l.rows l.d l.i)
-
-abbrev pub decreases-loop-i : goal.decreases-loop-i
-decreases-loop-i l = l.rows - l.i

@@ -2,7 +2,7 @@
 -- the triangle is changed, so that the next row has the same slopes and weights (`lower_step`). From all rows the whole matrix is read (`lower_all`). The measure is the
 -- rows to come. Assumes nothing.
 use mathlib.Core.Path.{◌≡◌, refl, sym, subst, ◌∙◌}
-use Prim.Native.Nat.{ℕ, ◌+◌, ◌*◌, ◌≤◌}
+use Prim.Native.Nat.{ℕ, ◌+◌, ◌*◌}
 use native.Mathlib.Nat.{not-suc-le-zero}
 use native.Mathlib.Omega.{arith}
 use Rattle.least_squares.specs.Filled.{FiniteAt}
@@ -13,13 +13,6 @@ use Rattle.least_squares.proofs.LmLaws.{row_fits, lower_step, lower_all}
 use Rattle.least_squares.proofs.ColumnLaws.{finite_front, finite_above}
 use Rattle.least_squares.proofs.lm.matrix.Goals as goal
 
-record Inside (i n rows : ℕ) : Type 0 where
-  pub row : triangle i + (i + 1) ≤ triangle rows
-  pub slopes : i * n + n ≤ rows * n
-
-pub overflow_add-w : goal.overflow_add-w
-overflow_add-w c = let e = c.places.ensures in omega arith
-
 pub loop-i-init : goal.loop-i-init
 loop-i-init c = let e = c.places.ensures in (omega arith, omega arith, kept_refl _ _ _, (λ p h k l. absurd (not-suc-le-zero h)), refl)
 
@@ -27,24 +20,12 @@ pub places-requires-in-loop-i : goal.places-requires-in-loop-i
 places-requires-in-loop-i c =
     omega arith
 
--- `inside`: row i of the triangle ends where the triangle does, at the latest, and row i of the slopes where the slopes do
+-- row i of the triangle ends where the triangle does, at the latest
 pub overflow_add-a : goal.overflow_add-a
-overflow_add-a c =
-    let inside : Inside c.loop-i.i c.args.n c.args.rows =
-    let i = c.loop-i.i in
-    let g = c.args in
-    record { row = row_in_triangle i g.rows (omega arith); slopes = row_fits i g.n g.rows (omega arith) } in
-    let e = c.places-in-loop-i.ensures in omega (arith, inside)
-
-pub slice_bounds-matrix_row-end : goal.slice_bounds-matrix_row-end
-slice_bounds-matrix_row-end c = let z = c.loop-i.invariant.4 in omega arith
+overflow_add-a c = omega (arith, c.places-in-loop-i.ensures, row_in_triangle c.loop-i.i c.args.rows (omega arith))
 
 pub matrix_row-requires : goal.matrix_row-requires
 matrix_row-requires c =
-    let inside : Inside c.loop-i.i c.args.n c.args.rows =
-    let i = c.loop-i.i in
-    let g = c.args in
-    record { row = row_in_triangle i g.rows (omega arith); slopes = row_fits i g.n g.rows (omega arith) } in
     let g = c.args in
     let o = g.s.now in
     let s = c.loop-i.s in
@@ -52,13 +33,14 @@ matrix_row-requires c =
     let kept = c.loop-i.invariant.2 in
     let e = c.places-in-loop-i.ensures in
     let z = kept.size in
-    let i = inside in record {
+    let row = row_in_triangle c.loop-i.i g.rows (omega arith) in
+    let slopes = row_fits c.loop-i.i g.n g.rows (omega arith) in record {
       i_bound = (omega arith, omega arith, let z = c.loop-i.invariant.4 in omega arith);
-      n_bound = omega (arith, i);
-      i_bound_2 = omega (arith, i);
-      n_in_bounds = omega (arith, i);
+      n_bound = omega (arith, row, slopes);
+      i_bound_2 = omega (arith, row, slopes);
+      n_in_bounds = omega (arith, row, slopes);
       finite_at = (
-        finite_front o s (c.loop-i.i * g.n + g.n) a a (a + triangle g.rows) i.slopes (omega arith) kept c.requires.finite_at.0,
+        finite_front o s (c.loop-i.i * g.n + g.n) a a (a + triangle g.rows) slopes (omega arith) kept c.requires.finite_at.0,
         subst (λ (w : ℕ). FiniteAt s w g.n) (sym c.loop-i.invariant.1) (finite_above o s (a + triangle g.rows) g.n a (a + triangle g.rows) (omega arith) kept c.requires.finite_at.1),
       );
     }

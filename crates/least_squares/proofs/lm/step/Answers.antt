@@ -12,13 +12,13 @@ use Rattle.least_squares.proofs.lm.step.Goals as goal
 pub loop-c-init : goal.loop-c-init
 loop-c-init c = (omega arith, kept_refl _ _ _, λ j l. absurd (not-suc-le-zero l))
 
-pub stepped_at-v-requires : goal.stepped_at-v-requires
-stepped_at-v-requires c = let z = c.loop-c.invariant.1.size in omega arith
+pub stepped_at-requires : goal.stepped_at-requires
+stepped_at-requires c = let z = c.loop-c.invariant.1.size in omega arith
 
 pub loop-c-preserved : goal.loop-c-preserved
 loop-c-preserved c =
     let g = c.args in
-    let r = step_step g.s.now c.loop-c.s _ g.n g.rows g.x g.j g.w g.y g.z c.loop-c.c c.stepped_at-v.result (omega arith) (omega arith) (omega arith) (omega arith) (omega arith) (omega arith) c.loop-c.invariant.1 c.loop-c.invariant.2 c.stepped_at-v.ensures refl in
+    let r = step_step g.s.now c.loop-c.s _ g.n g.rows g.x g.j g.w g.y g.z c.loop-c.c c.stepped_at.result (omega arith) (omega arith) (omega arith) (omega arith) (omega arith) (omega arith) c.loop-c.invariant.1 c.loop-c.invariant.2 c.stepped_at.ensures refl in
     (omega arith, r.0, r.1)
 
 pub returns : goal.returns

@@ -1,7 +1,6 @@
 -- `least_squares::lm::stepped_at` meets its contract. The invariant: t is the sum of the first i products of column c of the slopes and y, read from the scratch. At
 -- the end that sum, read from the parts, is the definition's (`stepped_is`); the measure is the rows to come. Assumes nothing.
 use Rattle.least_squares.proofs.LmLaws.{stepped_is}
-use Rattle.least_squares.proofs.TableLaws.{in_rows}
 use Rattle.numbers.specs.Sum.{sum_from}
 use native.Mathlib.Numerals.{add-one}
 use native.Mathlib.Omega.{arith}
@@ -11,21 +10,6 @@ use Rattle.least_squares.proofs.lm.stepped_at.Goals as goal
 pub loop-i-init : goal.loop-i-init
 unfolding sum_from
 loop-i-init c = (omega arith, refl)
-
-pub overflow_mul-t : goal.overflow_mul-t
-overflow_mul-t c = omega (arith, in_rows c.loop-i.i c.args.c c.args.n c.args.rows (omega arith) (omega arith))
-
-pub overflow_add-t : goal.overflow_add-t
-overflow_add-t c = omega (arith, in_rows c.loop-i.i c.args.c c.args.n c.args.rows (omega arith) (omega arith))
-
-pub overflow_add-t-in-loop-i : goal.overflow_add-t-in-loop-i
-overflow_add-t-in-loop-i c = omega (arith, in_rows c.loop-i.i c.args.c c.args.n c.args.rows (omega arith) (omega arith))
-
-pub offset_bounds-s-j : goal.offset_bounds-s-j
-offset_bounds-s-j c = omega (arith, in_rows c.loop-i.i c.args.c c.args.n c.args.rows (omega arith) (omega arith))
-
-pub bounds-s-j : goal.bounds-s-j
-bounds-s-j c = omega (arith, in_rows c.loop-i.i c.args.c c.args.n c.args.rows (omega arith) (omega arith))
 
 pub loop-i-preserved : goal.loop-i-preserved
 unfolding sum_from

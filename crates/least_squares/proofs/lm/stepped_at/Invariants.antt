@@ -5,11 +5,8 @@ use Rattle.numbers.specs.Double.{zero64}
 use Rattle.numbers.specs.Ops.{doubles}
 use Rattle.numbers.specs.Sum.{sum_from}
 use mathlib.Core.Path.{◌≡◌}
-use Prim.Native.Nat.{◌≤◌, ◌-◌}
+use Prim.Native.Nat.{◌≤◌}
 use Rattle.least_squares.proofs.lm.stepped_at.Given as goal
 
 abbrev pub invariant-loop-i : goal.invariant-loop-i
 invariant-loop-i l = (l.i ≤ l.rows) × (l.t ≡ sum_from doubles zero64 (column_term l.s l.j l.n l.y l.c) l.i)
-
-abbrev pub decreases-loop-i : goal.decreases-loop-i
-decreases-loop-i l = l.rows - l.i

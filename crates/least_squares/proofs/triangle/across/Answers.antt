@@ -1,9 +1,8 @@
 -- `least_squares::triangle::across`. The invariant: the entries right of the diagonal up to k are those below it, and all else is as at entry; k places on from `at` stands the
 -- entry in row k of the triangle. The measure is the entries to come. Assumes nothing.
 use mathlib.Core.Path.{◌≡◌, refl}
-use Prim.Native.Nat.{◌+◌, ◌<◌}
+use Prim.Native.Nat.{◌+◌}
 use native.Mathlib.Omega.{arith}
-use Rattle.least_squares.specs.Triangle.{triangle}
 use Rattle.least_squares.proofs.MemoryLaws.{kept_refl}
 use Rattle.least_squares.proofs.TriangleLaws.{triangle_next, in_triangle}
 use Rattle.least_squares.proofs.SpreadLaws.{across_step}
@@ -13,18 +12,12 @@ pub places-requires : goal.places-requires
 places-requires c =
     omega arith
 
--- `diagonal`: the diagonal entry lies in the triangle
+-- the diagonal entry lies in the triangle
 pub overflow_add-at : goal.overflow_add-at
-overflow_add-at c =
-    let diagonal : let g = c.args in triangle g.i + g.i < triangle g.rows =
-    let g = c.args in in_triangle g.i g.i g.rows (omega arith) (omega arith) in
-    let e = c.places.ensures in omega (arith, diagonal)
+overflow_add-at c = let g = c.args in omega (arith, c.places.ensures, in_triangle g.i g.i g.rows (omega arith) (omega arith))
 
 pub overflow_add-at-2 : goal.overflow_add-at-2
-overflow_add-at-2 c =
-    let diagonal : let g = c.args in triangle g.i + g.i < triangle g.rows =
-    let g = c.args in in_triangle g.i g.i g.rows (omega arith) (omega arith) in
-    let e = c.places.ensures in omega (arith, diagonal)
+overflow_add-at-2 c = let g = c.args in omega (arith, c.places.ensures, in_triangle g.i g.i g.rows (omega arith) (omega arith))
 
 pub loop-k-init : goal.loop-k-init
 loop-k-init c =
@@ -32,27 +25,15 @@ loop-k-init c =
     let n = triangle_next c.args.i in
     (omega arith, omega arith, omega arith, kept_refl _ _ _, λ j h l. absurd (omega arith))
 
--- `below`: the entry in row k of the triangle lies in it
+-- the entry in row k of the triangle lies in it
 pub overflow_add-at-in-loop-k : goal.overflow_add-at-in-loop-k
-overflow_add-at-in-loop-k c =
-    let below : let g = c.args in triangle c.loop-k.k + g.i < triangle g.rows =
-    let g = c.args in in_triangle c.loop-k.k g.i g.rows (omega arith) (omega arith) in
-    omega (arith, below)
+overflow_add-at-in-loop-k c = let g = c.args in omega (arith, c.loop-k.invariant.3.size, in_triangle c.loop-k.k g.i g.rows (omega arith) (omega arith))
 
 pub offset_bounds-s-at : goal.offset_bounds-s-at
-offset_bounds-s-at c =
-    let below : let g = c.args in triangle c.loop-k.k + g.i < triangle g.rows =
-    let g = c.args in in_triangle c.loop-k.k g.i g.rows (omega arith) (omega arith) in
-    omega (arith, below)
+offset_bounds-s-at c = let g = c.args in omega (arith, c.loop-k.invariant.3.size, in_triangle c.loop-k.k g.i g.rows (omega arith) (omega arith))
 
 pub bounds-s-at : goal.bounds-s-at
-bounds-s-at c =
-    let below : let g = c.args in triangle c.loop-k.k + g.i < triangle g.rows =
-    let g = c.args in in_triangle c.loop-k.k g.i g.rows (omega arith) (omega arith) in
-    let z = c.loop-k.invariant.3.size in omega (arith, below)
-
-pub bounds-s-b : goal.bounds-s-b
-bounds-s-b c = let z = c.loop-k.invariant.3.size in omega arith
+bounds-s-at c = let g = c.args in omega (arith, c.loop-k.invariant.3.size, in_triangle c.loop-k.k g.i g.rows (omega arith) (omega arith))
 
 pub loop-k-preserved : goal.loop-k-preserved
 loop-k-preserved c =

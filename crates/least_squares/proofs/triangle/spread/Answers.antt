@@ -2,10 +2,8 @@
 -- entry. One more row is what is copied of it and what `across` adds (`square_step`); all rows are the matrix (`square_all`). The measure is the rows to come. Assumes
 -- nothing.
 use mathlib.Core.Path.{◌≡◌}
-use Prim.Native.Nat.{ℕ, ◌+◌, ◌*◌, ◌≤◌}
 use native.Mathlib.Nat.{not-suc-le-zero}
 use native.Mathlib.Omega.{arith}
-use lib.ListN.{length}
 use Rattle.least_squares.specs.Memory.{part}
 use Rattle.least_squares.specs.Triangle.{triangle}
 use Rattle.least_squares.proofs.MemoryLaws.{kept_refl}
@@ -14,55 +12,25 @@ use Rattle.least_squares.proofs.LmLaws.{row_fits}
 use Rattle.least_squares.proofs.SpreadLaws.{square_step, square_all}
 use Rattle.least_squares.proofs.triangle.spread.Goals as goal
 
-record Inside (i rows size size' : ℕ) : Type 0 where
-  pub row : triangle i + (i + 1) ≤ triangle rows
-  pub square : i * rows + rows ≤ rows * rows
-  pub same : size' ≡ size
-
 pub loop-i-init : goal.loop-i-init
 loop-i-init c =
     (omega arith, kept_refl _ _ _, λ p h k l. absurd (not-suc-le-zero h))
 
--- `inside`: row i of the triangle ends where the triangle does, at the latest, row i of the square where the square does, and the scratch is as long as at entry
-pub overflow_mul-row : goal.overflow_mul-row
-overflow_mul-row c =
-    let inside : Inside c.loop-i.i c.args.rows (length c.args.s.now) (length c.loop-i.s) =
-    let i = c.loop-i.i in
-    let rows = c.args.rows in
-    record { row = row_in_triangle i rows (omega arith); square = row_fits i rows rows (omega arith); same = c.loop-i.invariant.1.size } in
-    omega (arith, inside)
-
-pub overflow_add-row : goal.overflow_add-row
-overflow_add-row c =
-    let inside : Inside c.loop-i.i c.args.rows (length c.args.s.now) (length c.loop-i.s) =
-    let i = c.loop-i.i in
-    let rows = c.args.rows in
-    record { row = row_in_triangle i rows (omega arith); square = row_fits i rows rows (omega arith); same = c.loop-i.invariant.1.size } in
-    omega (arith, inside)
-
+-- row i of the triangle ends where the triangle does, at the latest, row i of the square where the square does, and the scratch is as long as at entry
 pub overflow_add-a : goal.overflow_add-a
-overflow_add-a c =
-    let inside : Inside c.loop-i.i c.args.rows (length c.args.s.now) (length c.loop-i.s) =
-    let i = c.loop-i.i in
-    let rows = c.args.rows in
-    record { row = row_in_triangle i rows (omega arith); square = row_fits i rows rows (omega arith); same = c.loop-i.invariant.1.size } in
-    let e = c.places.ensures in omega (arith, inside)
+overflow_add-a c = omega (arith, c.places.ensures, row_in_triangle c.loop-i.i c.args.rows (omega arith), c.loop-i.invariant.1.size)
 
 pub copy-requires : goal.copy-requires
 copy-requires c =
-    let inside : Inside c.loop-i.i c.args.rows (length c.args.s.now) (length c.loop-i.s) =
     let i = c.loop-i.i in
     let rows = c.args.rows in
-    record { row = row_in_triangle i rows (omega arith); square = row_fits i rows rows (omega arith); same = c.loop-i.invariant.1.size } in
-    let e = c.places.ensures in omega (arith, inside)
+    omega (arith, c.places.ensures, row_in_triangle i rows (omega arith), row_fits i rows rows (omega arith), c.loop-i.invariant.1.size)
 
 pub across-requires : goal.across-requires
 across-requires c =
-    let inside : Inside c.loop-i.i c.args.rows (length c.args.s.now) (length c.loop-i.s) =
     let i = c.loop-i.i in
     let rows = c.args.rows in
-    record { row = row_in_triangle i rows (omega arith); square = row_fits i rows rows (omega arith); same = c.loop-i.invariant.1.size } in
-    let z = c.copy.ensures.kept.size in omega (arith, inside)
+    omega (arith, c.copy.ensures.kept.size, row_in_triangle i rows (omega arith), row_fits i rows rows (omega arith), c.loop-i.invariant.1.size)
 
 pub loop-i-preserved : goal.loop-i-preserved
 loop-i-preserved c =

@@ -2,7 +2,7 @@
 -- what stands below `ahead` (`better_smaller`). Assumes nothing.
 use native.Mathlib.Omega.{arith}
 use Rattle.scene.specs.Scene.{scene_of}
-use Rattle.rounds.proofs.RoundLaws.{arranged_same}
+use Rattle.rounds.proofs.RoundLaws.{arranged_same, arranged_within}
 use Rattle.placement.proofs.SolveLaws.{better_converged, better_smaller}
 use Rattle.placement.proofs.solve.better.Goals as goal
 
@@ -10,9 +10,9 @@ pub returns-then-converged : goal.returns-then-converged
 returns-then-converged c = better_converged _ _ _ _ _ c.if-converged.true
 
 pub worst-before-requires : goal.worst-before-requires
-worst-before-requires c = record { laid = c.requires.laid; arranged = arranged_same c.worst-now.ensures.size c.requires.arranged; n_bound = omega arith }
+worst-before-requires c = record { scratch = (arranged_same c.worst-now.ensures.size (arranged_within c.args.solver.arranged c.requires.scratch)).poses; n_bound = omega arith }
 
 pub returns : goal.returns
 returns c =
     let g = c.args in
-    better_smaller (scene_of g.sheet.now g.scene) g.scene g.p g.s.now _ _ g.converged c.worst-now.result c.worst-before.result c.requires.arranged c.if-converged.false c.worst-now.ensures c.worst-before.ensures
+    better_smaller (scene_of g.solver.sheet.bytes.now g.solver.sheet.scene) g.solver.sheet.scene g.solver.parts g.s.now _ _ g.converged c.worst-now.result c.worst-before.result (arranged_within c.args.solver.arranged c.requires.scratch) c.if-converged.false c.worst-now.ensures c.worst-before.ensures

@@ -1,32 +1,15 @@
--- `placement::solve::copy_over` meets its contract. The invariant: the doubles passed stand in d from `at` on. The measure is the doubles to come. Assumes nothing.
-use mathlib.Core.Path.{◌≡◌, refl}
-use Prim.Native.Nat.{◌+◌}
+-- `placement::solve::copy_over` meets its contract: the copied doubles stand between what was before and behind them (`put_to`). Assumes nothing.
 use native.Mathlib.Omega.{arith}
-use Rattle.placement.proofs.SolveLaws.{put_none, put_entry, part_more}
+use Prim.Native.Nat.{◌+◌, ◌-◌}
+use mathlib.Core.Path.{◌≡◌}
+use Rattle.least_squares.specs.Memory.{part}
+use Rattle.least_squares.proofs.MemoryLaws.{part_length}
+use Rattle.scene.proofs.PutLaws.{put_to}
 use Rattle.placement.proofs.solve.copy_over.Goals as goal
 
-pub loop-i-init : goal.loop-i-init
-loop-i-init c = (omega arith, put_none _ _)
-
-pub overflow_add-d-in-loop-i : goal.overflow_add-d-in-loop-i
-overflow_add-d-in-loop-i c = let z = c.loop-i.invariant.1.kept.size in omega arith
-
-pub offset_bounds-d-at : goal.offset_bounds-d-at
-offset_bounds-d-at c = let z = c.loop-i.invariant.1.kept.size in omega arith
-
-pub bounds-d-at : goal.bounds-d-at
-bounds-d-at c = let z = c.loop-i.invariant.1.kept.size in omega arith
-
-pub loop-i-preserved : goal.loop-i-preserved
-loop-i-preserved c =
-    let at = c.loop-i in
-    let g = c.args in
-    let y = at.invariant.1 in
-    let z = y.kept.size in
-    (omega arith, put_entry _ at.d g.at at.i (g.at + at.i) _ _ _ refl (omega arith) (part_more g.s.now g.o at.i _ (omega arith)) y)
-
-pub shape_of-d : goal.shape_of-d
-shape_of-d c = c.loop-i.invariant.1.kept.size
-
 pub returns : goal.returns
-returns c = let e : c.loop-i.i ≡ c.args.k = omega arith in rw e at c.loop-i.invariant.1
+returns c =
+    let g = c.args in
+    let k : g.o + g.k - g.o ≡ g.k = omega arith in
+    let j : g.at + g.k - g.at ≡ g.k = omega arith in
+    rw (c.copy_from_slice.ensures.after, k) (put_to g.d.now (part g.s.now g.o g.k) g.at (g.at + g.k - g.at) g.k j (part_length g.s.now g.o g.k (omega arith)) c.requires.k_in_bounds_2)

@@ -20,11 +20,11 @@ pub loop-j-preserved : goal.loop-j-preserved
 loop-j-preserved c =
     let at = c.loop-j in
     let g = c.args in
-    let q = poses_in g.s.now g.p g.scene.m in
+    let q = poses_in g.s.now g.p g.sheet.scene.m in
     let y = at.invariant.1 in
     let z = y.kept.size in
-    let e = error_is g.sheet.now g.scene q at.j _ _ _ c.rel_at-rel.ensures c.rel_rows.ensures c.max_abs.ensures in
-    (omega arith, put_entry _ at.errors 0 at.j at.j _ _ _ (omega arith) (omega arith) (list_more (error_at g.sheet.now g.scene q) at.j _ e) y)
+    let e = error_is g.sheet.bytes.now g.sheet.scene q at.j _ _ _ c.relation-rel.ensures c.rel_rows.ensures c.max_abs.ensures in
+    (omega arith, put_entry _ at.errors 0 at.j at.j _ _ _ (omega arith) (omega arith) (list_more (error_at g.sheet.bytes.now g.sheet.scene q) at.j _ e) y)
 
 pub shape_of-errors : goal.shape_of-errors
 shape_of-errors c = c.loop-j.invariant.1.kept.size
@@ -32,5 +32,5 @@ shape_of-errors c = c.loop-j.invariant.1.kept.size
 pub returns : goal.returns
 returns c =
     let g = c.args in
-    let e : c.loop-j.j ≡ g.scene.k = omega arith in
-    put_front _ _ _ _ (rw (errors_are g.sheet.now g.scene (poses_in g.s.now g.p g.scene.m)) at (rw e at c.loop-j.invariant.1))
+    let e : c.loop-j.j ≡ g.sheet.scene.k = omega arith in
+    put_front _ _ _ _ (rw (errors_are g.sheet.bytes.now g.sheet.scene (poses_in g.s.now g.p g.sheet.scene.m)) at (rw e at c.loop-j.invariant.1))

@@ -7,7 +7,7 @@ use Rattle.placement.proofs.SolveLaws.{error_at}
 use Rattle.placement.proofs.solve.put_errors.Given as goal
 
 abbrev pub invariant-loop-j : goal.invariant-loop-j
-invariant-loop-j l = (l.j ≤ l.k) × Put l.initial.errors l.errors 0 l.j (list_of (error_at l.sheet l.scene (poses_in l.s l.p l.scene.m)) l.j)
+invariant-loop-j l = (l.j ≤ l.k) × Put l.initial.errors l.errors 0 l.j (list_of (error_at l.sheet.bytes.now l.sheet.scene (poses_in l.s l.p l.sheet.scene.m)) l.j)
 
 abbrev pub decreases-loop-j : goal.decreases-loop-j
 decreases-loop-j l = l.k - l.j

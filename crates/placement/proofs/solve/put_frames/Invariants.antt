@@ -8,7 +8,7 @@ use Rattle.placement.proofs.SolveLaws.{frame_in}
 use Rattle.placement.proofs.solve.put_frames.Given as goal
 
 abbrev pub invariant-loop-i : goal.invariant-loop-i
-invariant-loop-i l = (l.i ≤ l.scene.m) × Put l.initial.frames l.frames 0 (12 * l.i) (frames_doubles (list_of (frame_in l.sheet l.scene l.s l.p) l.i))
+invariant-loop-i l = (l.i ≤ l.sheet.scene.m) × Put l.initial.frames l.frames 0 (12 * l.i) (frames_doubles (list_of (frame_in l.sheet.bytes.now l.sheet.scene l.s l.p) l.i))
 
 abbrev pub decreases-loop-i : goal.decreases-loop-i
-decreases-loop-i l = l.scene.m - l.i
+decreases-loop-i l = l.sheet.scene.m - l.i

@@ -6,9 +6,9 @@ use Rattle.placement.proofs.SolveLaws.{worst_is}
 use Rattle.placement.proofs.solve.worst.Goals as goal
 
 pub rows_at-requires : goal.rows_at-requires
-rows_at-requires c = record { laid = c.requires.laid; n_bound = omega arith; rows_bound = omega arith; m_in_bounds = omega arith }
+rows_at-requires c = record { n_bound = omega arith; rows_bound = omega arith; m_in_bounds = omega arith }
 
 pub returns : goal.returns
 returns c =
     let g = c.args in
-    worst_is (scene_of g.sheet.now g.scene) g.scene g.p g.s.now _ g.x _ c.rows_at.ensures c.largest.ensures
+    worst_is (scene_of g.solver.sheet.bytes.now g.solver.sheet.scene) g.solver.sheet.scene g.solver.parts g.s.now _ g.x _ c.rows_at.ensures c.largest.ensures

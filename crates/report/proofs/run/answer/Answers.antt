@@ -16,11 +16,11 @@ u16_at-k-requires c = omega (arith, (sheet_passes _ c.requires.sheet_value).head
 pub answer_text-requires : goal.answer_text-requires
 answer_text-requires c =
     let n = counted _ c.requires.sheet_value in
-    let k = c.u16_at-k.ensures.0 in
-    let m = c.u16_at-m.ensures.0 in
+    let k = c.u16_at-k.ensures in
+    let m = c.u16_at-m.ensures in
     record { k_bound = omega (arith, n.1, k); k_in_bounds = omega (arith, n.1, k, c.requires.errors_len); free_bound = omega (arith, c.requires.free_bound); m_bound = omega (arith, n.0, m); m_in_bounds = omega (arith, n.0, m, c.requires.freedoms_len); in_bounds = c.requires.in_bounds }
 
 pub returns : goal.returns
 returns c =
     let g = c.args in
-    put_counted _ _ _ _ (eqb g.converged 1) g.errors.now _ _ g.free g.freedoms.now _ _ c.u16_at-k.ensures.0 c.u16_at-m.ensures.0 c.answer_text.ensures
+    put_counted _ _ _ _ (eqb g.converged 1) g.errors.now _ _ g.free g.freedoms.now _ _ c.u16_at-k.ensures c.u16_at-m.ensures c.answer_text.ensures

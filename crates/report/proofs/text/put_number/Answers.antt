@@ -5,10 +5,10 @@ use Rattle.writing.proofs.PutLaws.{put_then}
 use Rattle.report.proofs.TextLaws.{decimal_length}
 use Rattle.report.proofs.text.put_number.Goals as goal
 
-pub put_word-requires : goal.put_word-requires
-put_word-requires c = let few = decimal_length c.args.n (omega arith) in omega arith
+pub put_bytes-requires : goal.put_bytes-requires
+put_bytes-requires c = let few = decimal_length c.args.n (omega arith) in omega arith
 
 pub returns : goal.returns
 returns c =
-    put_then _ _ _ _ _ _ _ _ c.put_word-a.ensures
-    (put_then _ _ _ _ _ _ _ _ c.put_decimal-b.ensures c.put_word.ensures)
+    put_then _ _ _ _ _ _ _ _ c.put_bytes-a.ensures.1
+    (put_then _ _ _ _ _ _ _ _ c.put_decimal-b.ensures c.put_bytes.ensures.1)

@@ -6,8 +6,8 @@ use Rattle.writing.proofs.PutLaws.{put_then}
 use Rattle.report.proofs.TextLaws.{decimal_length, digits_length}
 use Rattle.report.proofs.text.put_relation.Goals as goal
 
-pub put_word-c-requires : goal.put_word-c-requires
-put_word-c-requires c =
+pub put_bytes-c-requires : goal.put_bytes-c-requires
+put_bytes-c-requires c =
     let few = decimal_length c.args.j c.requires.j_bound in
     omega arith
 
@@ -16,14 +16,14 @@ put_bits-d-requires c =
     let few = decimal_length c.args.j c.requires.j_bound in
     omega arith
 
-pub put_word-requires : goal.put_word-requires
-put_word-requires c =
+pub put_bytes-requires : goal.put_bytes-requires
+put_bytes-requires c =
     let few = decimal_length c.args.j c.requires.j_bound in
     let sixteen = digits_length 16 16 (to_bits binary64 c.args.x) in
     omega arith
 
 pub returns : goal.returns
 returns c =
-    put_then _ _ _ _ _ _ _ _ c.put_word-a.ensures
+    put_then _ _ _ _ _ _ _ _ c.put_bytes-a.ensures.1
     (put_then _ _ _ _ _ _ _ _ c.put_decimal-b.ensures
-    (put_then _ _ _ _ _ _ _ _ c.put_word-c.ensures (put_then _ _ _ _ _ _ _ _ c.put_bits-d.ensures c.put_word.ensures)))
+    (put_then _ _ _ _ _ _ _ _ c.put_bytes-c.ensures.1 (put_then _ _ _ _ _ _ _ _ c.put_bits-d.ensures c.put_bytes.ensures.1)))

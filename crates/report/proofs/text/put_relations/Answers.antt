@@ -1,5 +1,4 @@
--- `report::text::put_relations` meets its contract. The invariant: the lines of the relations passed stand from `at` on. The measure is the relations to come.
--- Assumes nothing.
+-- `report::text::put_relations` meets its contract. The invariant: the lines of the relations passed stand from `at` on. Assumes nothing.
 use mathlib.Core.Path.{◌≡◌}
 use native.Mathlib.Omega.{arith}
 use lib.ListN.{get_or}
@@ -10,12 +9,12 @@ use Rattle.report.proofs.TextLaws.{relations_length}
 use Rattle.report.proofs.text.put_relations.Goals as goal
 
 pub loop-j-init : goal.loop-j-init
-loop-j-init c = (omega arith, omega arith, joined_start _ _ _ (omega arith))
+loop-j-init c = (omega arith, joined_start _ _ _ (omega arith))
 
 pub put_relation-next-requires : goal.put_relation-next-requires
 put_relation-next-requires c =
     let l = c.loop-j in
-    let written = l.invariant.2.next in
+    let written = l.invariant.1.next in
     let few = relations_length c.args.errors.now l.j (omega arith) in
     record { j_bound = omega arith; at_in_bounds = omega arith }
 
@@ -23,11 +22,5 @@ pub loop-j-preserved : goal.loop-j-preserved
 loop-j-preserved c =
     let l = c.loop-j in
     let errors = c.args.errors.now in
-    let p = joined_step (λ j. relation_line j (get_or errors j nan)) _ l.out _ _ _ _ l.j l.invariant.2 c.put_relation-next.ensures in
-    (omega arith, put_size _ _ _ _ _ p, p)
-
-pub shape_of-out : goal.shape_of-out
-shape_of-out c = c.loop-j.invariant.1
-
-pub returns : goal.returns
-returns c = let e : c.loop-j.j ≡ c.args.k = omega arith in rw e at c.loop-j.invariant.2
+    let p = joined_step (λ j. relation_line j (get_or errors j nan)) _ l.out _ _ _ _ l.j l.invariant.1 c.put_relation-next.ensures in
+    (put_size _ _ _ _ _ p, p)

@@ -8,7 +8,7 @@ pub u16_at-m-requires : goal.u16_at-m-requires
 u16_at-m-requires c = omega (arith, (reading_passes _ _ c.requires).header)
 
 pub rel_at-requires : goal.rel_at-requires
-rel_at-requires c = omega (arith, (reading_passes _ _ c.requires).whole, (reading_passes _ _ c.requires).below, c.u16_at-m.ensures.0)
+rel_at-requires c = omega (arith, (reading_passes _ _ c.requires).whole, (reading_passes _ _ c.requires).below, c.u16_at-m.ensures)
 
 pub returns : goal.returns
-returns c = rw (c.rel_at.ensures, c.u16_at-m.ensures.0)
+returns c = rw (c.rel_at.ensures, c.u16_at-m.ensures)

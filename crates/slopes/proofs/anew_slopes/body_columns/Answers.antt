@@ -12,17 +12,17 @@ overflow_add-at-2 c = let apart = c.requires.apart in omega arith
 
 pub named_columns-requires : goal.named_columns-requires
 named_columns-requires c =
-    let made : let g = c.args in MovedPoses (body_at g.sheet.now (g.scene.bodies + 136 * g.i)) c.six_at-x.result c.moved_poses-steps.new.moved c.moved_poses-steps.result 6 =
-    moved_as _ _ _ _ _ c.body_at-b.ensures c.moved_poses-steps.ensures.poses in
+    let made : let g = c.args in MovedPoses (body_at g.sheet.bytes.now (g.sheet.scene.bodies + 136 * g.i)) c.six_at-x.result c.moved_poses-steps.new.moved c.moved_poses-steps.result 6 =
+    moved_as _ _ _ _ _ c.body-b.ensures c.moved_poses-steps.ensures.poses in
     let g = c.args in
-    let laid = c.requires.laid in
+    let laid = c.args.sheet.laid in
     let apart = c.requires.apart in
-    let size = c.moved_poses-steps.ensures.size in record { laid = laid; room = record { body = c.requires.i_lt_m.0; poses = apart.poses; twelve = omega arith; wide = omega arith; below = omega arith }; clear = columns_clear g.sheet.now g.scene g.at g.s.now _ g.i g.k laid apart c.requires.i_lt_m.0 c.requires.i_lt_m.1 c.requires.none_value c.requires.standing; steps = moved_steps _ _ _ _ (made) }
+    let size = c.moved_poses-steps.ensures.size in record { room = record { body = c.requires.i_lt_m.0; poses = apart.poses; twelve = omega arith; wide = omega arith; below = omega arith }; clear = columns_clear g.sheet.bytes.now g.sheet.scene g.at g.s.now _ g.i g.k laid apart c.requires.i_lt_m.0 c.requires.i_lt_m.1 c.requires.none_value c.requires.standing; steps = moved_steps _ _ _ _ (made) }
 
 pub returns : goal.returns
 returns c =
-    let made : let g = c.args in MovedPoses (body_at g.sheet.now (g.scene.bodies + 136 * g.i)) c.six_at-x.result c.moved_poses-steps.new.moved c.moved_poses-steps.result 6 =
-    moved_as _ _ _ _ _ c.body_at-b.ensures c.moved_poses-steps.ensures.poses in
+    let made : let g = c.args in MovedPoses (body_at g.sheet.bytes.now (g.sheet.scene.bodies + 136 * g.i)) c.six_at-x.result c.moved_poses-steps.new.moved c.moved_poses-steps.result 6 =
+    moved_as _ _ _ _ _ c.body-b.ensures c.moved_poses-steps.ensures.poses in
     let g = c.args in
-    body_columns_is g.sheet.now g.scene g.at g.s.now _ g.i g.k c.requires.laid c.requires.apart c.requires.i_lt_m.0 c.requires.i_lt_m.1 c.requires.none_value c.requires.standing
+    body_columns_is g.sheet.bytes.now g.sheet.scene g.at g.s.now _ g.i g.k c.args.sheet.laid c.requires.apart c.requires.i_lt_m.0 c.requires.i_lt_m.1 c.requires.none_value c.requires.standing
     _ _ _ c.six_at-x.ensures (made) _ c.named_columns.ensures

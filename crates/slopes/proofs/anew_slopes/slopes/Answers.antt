@@ -12,12 +12,12 @@ use Rattle.slopes.proofs.anew_slopes.slopes.Goals as goal
 pub poses_at-requires : goal.poses_at-requires
 poses_at-requires c =
     let size = c.clear.ensures.kept.size in
-    record { laid = c.requires.laid; n_bound = omega arith; m_in_bounds = omega arith }
+    record { n_bound = omega arith; m_in_bounds = omega arith }
 
 pub loop-i-init : goal.loop-i-init
 loop-i-init c =
     let g = c.args in
-    (omega arith, reached_start g.sheet.now g.scene g.at g.s.now _ _ c.requires.apart c.clear.ensures c.poses_at.ensures)
+    (omega arith, reached_start g.sheet.bytes.now g.sheet.scene g.at g.s.now _ _ c.requires.apart c.clear.ensures c.poses_at.ensures)
 
 pub anew_body-requires : goal.anew_body-requires
 anew_body-requires c =
@@ -25,16 +25,16 @@ anew_body-requires c =
     c.poses_at.ensures.kept.size ∙ c.clear.ensures.kept.size in
     let l = c.loop-i in
     let g = c.args in
-    let start = poses_start g.sheet.now g.scene g.at g.s.now _ _ c.requires.apart c.clear.ensures c.poses_at.ensures in
-    record { laid = c.requires.laid; apart = apart_same (l.invariant.1.size ∙ sized) c.requires.apart; i_lt_m = omega arith; standing = reached_standing _ g.scene g.at _ c.requires.apart _ l.s _ start l.invariant.1 }
+    let start = poses_start g.sheet.bytes.now g.sheet.scene g.at g.s.now _ _ c.requires.apart c.clear.ensures c.poses_at.ensures in
+    record { apart = apart_same (l.invariant.1.size ∙ sized) c.requires.apart; i_lt_m = omega arith; standing = reached_standing _ g.sheet.scene g.at _ c.requires.apart _ l.s _ start l.invariant.1 }
 
 pub loop-i-preserved : goal.loop-i-preserved
 loop-i-preserved c =
     let l = c.loop-i in
     let g = c.args in
-    let sc = scene_of g.sheet.now g.scene in (
+    let sc = scene_of g.sheet.bytes.now g.sheet.scene in (
       omega arith,
-      reached_step sc g.scene g.at _ c.requires.apart _ l.s _ _ _ (given_among g.sheet.now g.scene (l.i + 1) c.requires.laid) (given_more sc l.i) l.invariant.1 c.anew_body.ensures,
+      reached_step sc g.sheet.scene g.at _ c.requires.apart _ l.s _ _ _ (given_among g.sheet.bytes.now g.sheet.scene (l.i + 1) c.args.sheet.laid) (given_more sc l.i) l.invariant.1 c.anew_body.ensures,
     )
 
 pub shape_of-s : goal.shape_of-s
@@ -47,7 +47,7 @@ pub returns : goal.returns
 returns c =
     let l = c.loop-i in
     let g = c.args in
-    let sc = scene_of g.sheet.now g.scene in
-    let e : l.i ≡ g.scene.m = omega arith in
-    slopes_is g.sheet.now g.scene g.at g.s.now _ _ c.requires.apart c.clear.ensures c.poses_at.ensures l.s
-    (subst (Reached sc g.scene g.at _ l.s) (given_all g.sheet.now g.scene l.i c.requires.laid e) l.invariant.1)
+    let sc = scene_of g.sheet.bytes.now g.sheet.scene in
+    let e : l.i ≡ g.sheet.scene.m = omega arith in
+    slopes_is g.sheet.bytes.now g.sheet.scene g.at g.s.now _ _ c.requires.apart c.clear.ensures c.poses_at.ensures l.s
+    (subst (Reached sc g.sheet.scene g.at _ l.s) (given_all g.sheet.bytes.now g.sheet.scene l.i c.args.sheet.laid e) l.invariant.1)

@@ -7,7 +7,7 @@ use Rattle.slopes.proofs.BodyLaws.{Reached}
 use Rattle.slopes.proofs.anew_slopes.slopes.Given as goal
 
 abbrev pub invariant-loop-i : goal.invariant-loop-i
-invariant-loop-i l = (l.i ≤ l.scene.m) × Reached (scene_of l.sheet l.scene) l.scene l.at l.initial.s l.s (given (scene_of l.sheet l.scene) l.i)
+invariant-loop-i l = (l.i ≤ l.sheet.scene.m) × Reached (scene_of l.sheet.bytes.now l.sheet.scene) l.sheet.scene l.at l.initial.s l.s (given (scene_of l.sheet.bytes.now l.sheet.scene) l.i)
 
 abbrev pub decreases-loop-i : goal.decreases-loop-i
-decreases-loop-i l = l.scene.m - l.i
+decreases-loop-i l = l.sheet.scene.m - l.i

@@ -8,7 +8,7 @@ use Rattle.slopes.proofs.MovedLaws.{Passed}
 use Rattle.slopes.proofs.moved.named_columns.Given as goal
 
 abbrev pub invariant-loop-j : goal.invariant-loop-j
-invariant-loop-j l = (l.j ≤ l.scene.k) × Passed l.sheet l.scene l.j l.row × Block l.initial.s l.s l.o l.n l.row 6 (moved_slope (λ poses. all_rows poses (scene_of l.sheet l.scene).rels) (poses_in l.initial.s l.p l.scene.m) l.i l.moved l.steps)
+invariant-loop-j l = (l.j ≤ l.sheet.scene.k) × Passed l.sheet.bytes.now l.sheet.scene l.j l.row × Block l.initial.s l.s l.o l.n l.row 6 (moved_slope (λ poses. all_rows poses (scene_of l.sheet.bytes.now l.sheet.scene).rels) (poses_in l.initial.s l.p l.sheet.scene.m) l.i l.moved l.steps)
 
 abbrev pub decreases-loop-j : goal.decreases-loop-j
-decreases-loop-j l = l.scene.k - l.j
+decreases-loop-j l = l.sheet.scene.k - l.j

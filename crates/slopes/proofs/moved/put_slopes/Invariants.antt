@@ -7,7 +7,7 @@ use Rattle.slopes.specs.Moved.{Strided}
 use Rattle.slopes.proofs.moved.put_slopes.Given as goal
 
 abbrev pub invariant-loop-r : goal.invariant-loop-r
-invariant-loop-r l = (l.r ≤ l.rows) × (l.rows ≤ 7) × Strided l.initial.s l.s l.o l.n l.r (λ q. slope_of (get_or l.a q nan) (get_or l.b q nan) l.h)
+invariant-loop-r l = (l.r ≤ l.plus.n) × Strided l.initial.s l.s l.o l.n l.r (λ q. slope_of (get_or l.plus.values q nan) (get_or l.minus.values q nan) l.h)
 
 abbrev pub decreases-loop-r : goal.decreases-loop-r
-decreases-loop-r l = l.rows - l.r
+decreases-loop-r l = l.plus.n - l.r

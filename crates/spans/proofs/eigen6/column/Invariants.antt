@@ -1,15 +1,11 @@
 -- `eigen6::column` meets its contract. The loop's invariant: the first k entries stand, the others are 0. Assumes nothing.
-use Prim.Native.Nat.{◌-◌, ◌≤◌}
+use Prim.Native.Nat.{◌-◌}
 use mathlib.Core.Path.{◌≡◌}
 use mathlib.Core.List.{◌++◌}
 use lib.ListN.{replicate}
 use Rattle.numbers.specs.Double.{zero64}
 use Rattle.eigen.specs.Eigen.{column}
-use Rattle.spans.specs.Flat.{flat}
 use Rattle.spans.proofs.eigen6.column.Given as goal
 
 abbrev pub invariant-loop-k : goal.invariant-loop-k
-invariant-loop-k l = (l.k ≤ l.n) × (l.r ≡ column l.n (flat l.n l.v) l.i l.k ++ replicate (6 - l.k) zero64)
-
-abbrev pub decreases-loop-k : goal.decreases-loop-k
-decreases-loop-k l = l.n - l.k
+invariant-loop-k l = l.r ≡ column l.n l.v l.i l.k ++ replicate (6 - l.k) zero64

@@ -13,23 +13,23 @@ use Rattle.vectors.specs.Vec.{Vec, vec, len, normalized}
 use Rattle.spans.specs.Basis.{vec3, basis}
 use Rattle.spans.proofs.SpanLaws.{count_within, join_grows, join_stays}
 use Rattle.spans.proofs.span.join.Goals as goal
-use Rattle.spans.proofs.span.join.Goals.{else-least-len-via-then-least-len+else-count-lt3, else-least-len-via-else-least-len}
+use Rattle.spans.proofs.span.join.Goals.{else-least-len-via-then-least-len+else-out-lt3, else-least-len-via-else-least-len}
 
 pub without-u-requires : goal.without-u-requires
 without-u-requires c = count_within c.args.out c.requires c.args.least (vec c.args.v) c.well_formed.0.1.1.1.0.1.0.1
 
-pub returns-then-count-lt3 : goal.returns-then-count-lt3
-returns-then-count-lt3 c =
+pub returns-then-out-lt3 : goal.returns-then-out-lt3
+returns-then-out-lt3 c =
     let u = c.without-u in
     let test = rw (c.len.ensures, u.ensures) at c.if-least-len.true in
     ap (λ (w : Vec Float). record { count = c.args.out.count + 1; vectors = set c.args.out.vectors c.args.out.count (vec3 w) }) (c.normalized.ensures ∙ ap normalized u.ensures)
-    ∙ join_grows c.args.out c.requires c.args.least (vec c.args.v) test (lt-ltb _ _ c.if-count-lt3.true)
+    ∙ join_grows c.args.out c.requires c.args.least (vec c.args.v) test (lt-ltb _ _ c.if-out-lt3.true)
 
-pub returns : goal.returns
-returns c =
+pub returns-else-least-len : goal.returns-else-least-len
+returns-else-least-len c =
     let e = c.len.ensures ∙ ap len c.without-u.ensures in
     let fails : (lt c.args.least (len (without (vec c.args.v) (basis c.args.out))) && ltb c.args.out.count 3) ≡ false = elim c.else-least-len.branch [
-      | else-least-len-via-then-least-len+else-count-lt3 w ↦ rw (rw e at w.if-least-len.true) (le-ltb _ _ w.if-count-lt3.false)
+      | else-least-len-via-then-least-len+else-out-lt3 w ↦ rw (rw e at w.if-least-len.true) (le-ltb _ _ w.if-out-lt3.false)
       | else-least-len-via-else-least-len w ↦ rw (rw e at w.if-least-len.false)
     ] in
     join_stays c.args.out c.requires c.args.least (vec c.args.v) fails

@@ -5,19 +5,16 @@ use Rattle.vectors.specs.Vec.{vec}
 use Rattle.spans.proofs.SpanLaws.{without_step, without_end}
 use Rattle.spans.proofs.span.without.Goals as goal
 
-pub loop-i-init : goal.loop-i-init
-loop-i-init c = (omega arith, c.well_formed.1.0.1.1.1.0.1.0.1, refl)
+pub loop-b-init : goal.loop-b-init
+loop-b-init c = refl
 
-pub loop-i-preserved : goal.loop-i-preserved
-loop-i-preserved c =
-    let l = c.loop-i in
-    let o = c.args.out in
-    let e = without_step o.count o.vectors (omega arith) l.i (vec l.u) (vec c.scale.result) (vec c.sub-w.result) c.dot.result (omega arith)
-    c.dot.ensures c.scale.ensures c.sub-w.ensures in
-    (omega arith, l.invariant.1, sym e ∙ l.invariant.2)
+pub loop-b-preserved : goal.loop-b-preserved
+loop-b-preserved c =
+    let l = c.loop-b in
+    let e = without_step _ l.b-index (vec l.u) (vec c.mul.result) (vec c.sub-u.result) c.dot.result (omega arith) c.dot.ensures c.mul.ensures c.sub-u.ensures in
+    sym e ∙ l.invariant
 
 pub returns : goal.returns
 returns c =
-    let l = c.loop-i in
-    let o = c.args.out in
-    sym (without_end o.count o.vectors (omega arith) l.i (vec l.u) (omega arith)) ∙ l.invariant.2
+    let l = c.loop-b in
+    sym (without_end _ l.b-index (vec l.u) (omega arith)) ∙ l.invariant

@@ -4,9 +4,6 @@ use Rattle.writing.specs.Writing.{end_bytes}
 use Rattle.writing.proofs.PutLaws.{put_then}
 use Rattle.writing.proofs.bytes.put_end.Goals as goal
 
-pub overflow_cast-words : goal.overflow_cast-words
-overflow_cast-words c = omega (arith, c.shared_slice_known-6-1.given c.args.w)
-
 pub returns : goal.returns
 unfolding end_bytes
 returns c = (

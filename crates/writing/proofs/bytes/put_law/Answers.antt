@@ -4,12 +4,6 @@ use Rattle.writing.specs.Writing.{law_bytes}
 use Rattle.writing.proofs.PutLaws.{put_then}
 use Rattle.writing.proofs.bytes.put_law.Goals as goal
 
-pub overflow_cast-words : goal.overflow_cast-words
-overflow_cast-words c = omega (arith, c.shared_slice_known-6-1.given 0)
-
-pub overflow_cast-words-2 : goal.overflow_cast-words-2
-overflow_cast-words-2 c = omega (arith, c.shared_slice_known-7-1.given 1)
-
 pub returns : goal.returns
 unfolding law_bytes
 returns c = (

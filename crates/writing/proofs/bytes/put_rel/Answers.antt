@@ -6,9 +6,6 @@ use Rattle.writing.specs.Writing.{RelParts, law_bytes, end_bytes, rel_bytes}
 use Rattle.writing.proofs.PutLaws.{put_then}
 use Rattle.writing.proofs.bytes.put_rel.Goals as goal
 
-pub put_end-requires : goal.put_end-requires
-put_end-requires c = record { b_in_bounds = c.requires.in_bounds; w_in_bounds = omega (arith, c.requires.in_bounds_2); x_in_bounds = c.requires.in_bounds_3; at_in_bounds = omega (arith, c.requires.at_in_bounds, c.out-4-1.given, c.out-3-1.given, c.out-2-1.given, c.out-1.given, c.put_end-d.ensures.0, c.put_end-c.ensures.0, c.put_doubles-b.ensures.0, c.put_law-a.ensures.0) }
-
 pub returns : goal.returns
 unfolding rel_bytes
 returns c =

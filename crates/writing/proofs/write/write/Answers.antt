@@ -1,29 +1,62 @@
--- `writing::write::write` answers as `WriteAnswer` says: what `write_fault` refuses leaves the sheet as it was (`refused`); what it lets through is whole and has room (`accepted`), and `put_sheet` puts the scene's sheet (`written`). Assumes nothing.
-use native.Mathlib.Omega.{arith}
-use Rattle.writing.specs.Writing.{AllBytes, AllWords, AllDoubles}
-use Rattle.writing.proofs.LentLaws.{accepted, written, refused}
+-- `writing::write::write` answers as `WriteAnswer` says: each test that refuses gives its number and leaves the sheet as it was (`refused`); what all let through is
+-- put as the scene's sheet (`written`). Assumes nothing.
+use Rattle.std.proofs.Common.{rules, arith}
+use Rattle.format.proofs.RefusalLaws.{or_else_fault}
+use Rattle.writing.specs.Writing.{AllBytes, AllWords, AllDoubles, records_fault}
+use Rattle.writing.specs.Lent.{lent_scene_fault, write_fault}
+use Rattle.writing.proofs.LentLaws.{refused, written}
 use Rattle.writing.proofs.write.write.Goals as goal
 
-pub put_sheet-requires : goal.put_sheet-requires
-put_sheet-requires c =
-    let a = accepted _ _ _ _ _ _ _ c.write_fault-number.ensures c.if-number-eq0.true in
-    let w = a.whole in
-    record { m_bound = a.bodies; k_bound = a.relations; k_in_bounds = w.bytes; k_in_bounds_2 = w.words; k_in_bounds_3 = w.numbers; k_in_bounds_4 = a.room_is }
-
-pub returns-then-number-eq0 : goal.returns-then-number-eq0
-returns-then-number-eq0 c =
+pub returns-in_err-counts_fault : goal.returns-in_err-counts_fault
+unfolding write_fault lent_scene_fault records_fault
+returns-in_err-counts_fault c =
     let o = c.args in
     let bytes : AllBytes o.bytes.now = λ i. omega (arith, c.type_inv.bytes i) in
     let words : AllWords o.words.now = λ i. omega (arith, c.type_inv.words i) in
     let numbers : AllDoubles o.numbers.now = λ i. c.type_inv.numbers i in
-    written o.m o.k o.bytes.now o.words.now o.numbers.now bytes words numbers _ _ _ _
-    c.write_fault-number.ensures c.if-number-eq0.true c.put_sheet.ensures.0 c.put_sheet.ensures.1
+    refused o.m o.k o.bytes.now o.words.now o.numbers.now bytes words numbers o.sheet.now _ c.in_err-counts_fault.field-0.0 (search rules) (search (rules, or_else_fault))
+
+pub returns-in_err-lent_fault : goal.returns-in_err-lent_fault
+unfolding write_fault lent_scene_fault records_fault
+returns-in_err-lent_fault c =
+    let o = c.args in
+    let bytes : AllBytes o.bytes.now = λ i. omega (arith, c.type_inv.bytes i) in
+    let words : AllWords o.words.now = λ i. omega (arith, c.type_inv.words i) in
+    let numbers : AllDoubles o.numbers.now = λ i. c.type_inv.numbers i in
+    refused o.m o.k o.bytes.now o.words.now o.numbers.now bytes words numbers o.sheet.now _ c.in_err-lent_fault.field-0.0 (search rules) (search (rules, or_else_fault))
+
+pub returns-in_err-bodies_fault : goal.returns-in_err-bodies_fault
+unfolding write_fault lent_scene_fault records_fault
+returns-in_err-bodies_fault c =
+    let o = c.args in
+    let bytes : AllBytes o.bytes.now = λ i. omega (arith, c.type_inv.bytes i) in
+    let words : AllWords o.words.now = λ i. omega (arith, c.type_inv.words i) in
+    let numbers : AllDoubles o.numbers.now = λ i. c.type_inv.numbers i in
+    refused o.m o.k o.bytes.now o.words.now o.numbers.now bytes words numbers o.sheet.now _ c.in_err-bodies_fault.field-0.0 (search rules) (search (rules, or_else_fault))
+
+pub returns-in_err-rels_fault : goal.returns-in_err-rels_fault
+unfolding write_fault lent_scene_fault records_fault
+returns-in_err-rels_fault c =
+    let o = c.args in
+    let bytes : AllBytes o.bytes.now = λ i. omega (arith, c.type_inv.bytes i) in
+    let words : AllWords o.words.now = λ i. omega (arith, c.type_inv.words i) in
+    let numbers : AllDoubles o.numbers.now = λ i. c.type_inv.numbers i in
+    refused o.m o.k o.bytes.now o.words.now o.numbers.now bytes words numbers o.sheet.now _ c.in_err-rels_fault.field-0.0 (search rules) (search (rules, or_else_fault))
+
+pub returns-in_err-room_fault : goal.returns-in_err-room_fault
+unfolding write_fault lent_scene_fault records_fault
+returns-in_err-room_fault c =
+    let o = c.args in
+    let bytes : AllBytes o.bytes.now = λ i. omega (arith, c.type_inv.bytes i) in
+    let words : AllWords o.words.now = λ i. omega (arith, c.type_inv.words i) in
+    let numbers : AllDoubles o.numbers.now = λ i. c.type_inv.numbers i in
+    refused o.m o.k o.bytes.now o.words.now o.numbers.now bytes words numbers o.sheet.now _ c.in_err-room_fault.field-0.0 (search rules) (search (rules, or_else_fault))
 
 pub returns : goal.returns
+unfolding write_fault lent_scene_fault records_fault
 returns c =
     let o = c.args in
     let bytes : AllBytes o.bytes.now = λ i. omega (arith, c.type_inv.bytes i) in
     let words : AllWords o.words.now = λ i. omega (arith, c.type_inv.words i) in
     let numbers : AllDoubles o.numbers.now = λ i. c.type_inv.numbers i in
-    refused o.m o.k o.bytes.now o.words.now o.numbers.now bytes words numbers _ _
-    c.write_fault-number.ensures c.if-number-eq0.false
+    written o.m o.k o.bytes.now o.words.now o.numbers.now bytes words numbers o.sheet.now _ _ (search rules) c.put.ensures.0 c.put.ensures.1

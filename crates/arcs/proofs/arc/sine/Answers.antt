@@ -1,5 +1,0 @@
--- `arcs::arc::sine` meets its contract, by that of `sine_cosine`. Assumes nothing.
-use Rattle.arcs.proofs.arc.sine.Goals as goal
-
-pub returns : goal.returns
-returns c = rw c.sine_cosine-r.ensures

@@ -1,7 +1,0 @@
--- `rounds::trial::take_step` meets its contract: the arrangement sets the places of both copies apart. The first leaves the rows at `ahead`, the second the unknowns at
--- `x`, and neither writes the weights, the slopes, the matrix or the first run's unknowns (`step_taken`). Assumes nothing.
-use Rattle.rounds.proofs.TrialLaws.{step_taken}
-use Rattle.rounds.proofs.trial.take_step.Goals as goal
-
-pub returns : goal.returns
-returns c = step_taken c.args.scene c.args.p _ _ _ _ c.requires c.copy.ensures c.copy-2.ensures

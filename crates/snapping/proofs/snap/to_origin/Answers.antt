@@ -1,7 +1,0 @@
--- `snapping::snap::to_origin` meets its contract: the definition is the same operations in the same order. A vector is known by its numbers (`vec_is`), so each call's
--- promise is put into the next. Assumes nothing.
-use Rattle.relations.proofs.Values.{vec_is}
-use Rattle.snapping.proofs.snap.to_origin.Goals as goal
-
-pub returns : goal.returns
-returns c = rw (vec_is c.sub.ensures, vec_is c.add.ensures, vec_is c.scale.ensures)
