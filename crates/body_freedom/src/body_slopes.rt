@@ -18,7 +18,7 @@ use judging::count::row_count;
 use least_squares::zeros::filled;
 use records::record::rel_at;
 use relations::model::{Body, Pose};
-use scene::scene::{Sheet, half_size, moved_pose, names, put_pose};
+use scene::scene::{Scene, Sheet, half_size, moved_pose, names, put_pose};
 use slopes::moved::rel_columns;
 use slopes::slopes::step_of;
 use vectors::vec::Vec3;
@@ -30,11 +30,13 @@ pub struct BodyParts {
 }
 
 // The parts, each from where the last ended.
-pub fn body_parts(sheet: Sheet) -> BodyParts
-    ensures { result ≡ spec.body_parts sheet.entry.scene }
+pub fn body_parts(scene: Scene) -> BodyParts
+    requires { (scene.rows ≤ 896) × (scene.n ≤ 384) }
+    ensures { result ≡ spec.body_parts scene }
 {
-    let poses = sheet.scene.rows * sheet.scene.n;
-    BodyParts { poses }
+    BodyParts {
+        poses: scene.rows * scene.n,
+    }
 }
 
 // The pose of body i's own frame, to place o.

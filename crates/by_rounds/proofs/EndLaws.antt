@@ -22,9 +22,6 @@ use Rattle.rounds.specs.Rounds.{unknowns_in, first_in, within_in}
 use Rattle.rounds.specs.declared.parts.SolveParts.{SolveParts as PartsStruct}
 use Rattle.placement.specs.Answer.{Better}
 use Rattle.portions.specs.Portions.{Running, is_running, finished, row_count, fresh, end_retry, within, no_round, begin_retry, end_run, judged, judge}
-use Rattle.by_rounds.specs.Run.{run_number}
-use Rattle.by_rounds.specs.declared.ends.Run.{Run}
-use Rattle.by_rounds.specs.declared.ends.Run.TheVariants.{First, Retry, Finished}
 use Rattle.by_rounds.specs.Running.{running_in, worked, Went}
 use Rattle.by_rounds.specs.declared.ends.Going.{Going as GoingStruct}
 
@@ -50,7 +47,7 @@ module _ (sc : Scene) (c : SceneStruct) (p : PartsStruct) (s t : List Float) (at
       let x = rows_same p.x c.n (omega arith) in
       let first = rows_same p.first c.n (omega arith) in
       record {
-        running = λ z. record { x = x z; first = first z; r = rows.holds z; mu = g.mu; done = g.done; run = run_number g.run };
+        running = λ z. record { x = x z; first = first z; r = rows.holds z; mu = g.mu; done = g.done; run = g.run };
         weights = rows_same p.weights c.n (omega arith);
         size = rows.size;
       }
@@ -69,7 +66,7 @@ end_retry_at sc converged st false h = rw h
 
 -- what goes by value, finished
 abbrev pub at_end : GoingStruct → GoingStruct
-at_end g = record { mu = g.mu; done = g.done; run = Finished }
+at_end g = record { mu = g.mu; done = g.done; run = 3 }
 
 module _ (sc : Scene) (c : SceneStruct) (p : PartsStruct) (s t : List Float) (g : GoingStruct) (converged kept : Bool) (at : Arranged c p (length s)) (b : Better sc c p s t converged kept) where
   choice_part : (o k : ℕ) → o + k ≤ p.ahead → part t o k ≡ part s o k
@@ -82,7 +79,7 @@ module _ (sc : Scene) (c : SceneStruct) (p : PartsStruct) (s t : List Float) (g 
       let first = choice_part p.first c.n (omega arith) in
       let r = choice_part p.rows c.rows (omega arith) in
       record {
-        running = λ z. record { x = x z; first = first z; r = r z; mu = g.mu; done = g.done; run = run_number g.run };
+        running = λ z. record { x = x z; first = first z; r = r z; mu = g.mu; done = g.done; run = g.run };
         weights = choice_part p.weights c.n (omega arith);
         size = b.size;
       }
@@ -106,27 +103,19 @@ module _ (sc : Scene) (c : SceneStruct) (p : PartsStruct) (s t : List Float) (g 
         size = w.size ∙ d.kept.size ∙ b.size;
       }
 
--- ---- which run it is
-
--- no other run has the number of the first
-pub not_first : (run : Run) → (run ≡ First → ⊥) → run_number run ≡ 1 → ⊥
-not_first First h e = h refl
-not_first Retry h e = cc
-not_first Finished h e = cc
-
 -- ---- the retry begins
 
 -- what goes by value, about to begin
-abbrev pub at_begin : Run → GoingStruct
+abbrev pub at_begin : ℕ → GoingStruct
 at_begin run = record { mu = of_bits binary64 0x3DDB_7CDF_D9D7_BDBB; done = 0; run = run }
 
 pub turned_is : (sc : Scene) (c : SceneStruct) (p : PartsStruct) (s t u v : List Float) (g : GoingStruct) → c.n ≡ unknowns sc → Arranged c p (length s) → Copied s t p.x p.first c.n
-    → Put t u p.x c.n (list_of slight_turn c.n) → Went c p u v g (worked sc (running_in c p u (at_begin Retry)))
+    → Put t u p.x c.n (list_of slight_turn c.n) → Went c p u v g (worked sc (running_in c p u (at_begin 2)))
     → Went c p s v g (fresh sc 2 (unknowns_in c p s) (list_of slight_turn (unknowns sc)))
 turned_is sc c p s t u v g n at d y w =
     let x : unknowns_in c p u ≡ list_of slight_turn (unknowns sc) = y.holds ∙ ap (list_of slight_turn) n in
     let first : first_in c p u ≡ unknowns_in c p s = kept_part_below t u p.x (p.x + c.n) p.first c.n at.first y.kept ∙ d.copy in
-    let e : worked sc (running_in c p u (at_begin Retry)) ≡ fresh sc 2 (unknowns_in c p s) (list_of slight_turn (unknowns sc))
+    let e : worked sc (running_in c p u (at_begin 2)) ≡ fresh sc 2 (unknowns_in c p s) (list_of slight_turn (unknowns sc))
     = λ z. record { x = x z; first = first z; r = rows_of sc (x z); mu = of_bits binary64 0x3DDB_7CDF_D9D7_BDBB; done = 0; run = 2 } in
     record {
       running = w.running ∙ e;

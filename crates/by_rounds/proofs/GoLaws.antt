@@ -23,8 +23,6 @@ use Rattle.rounds.specs.declared.trial.Tried.{Tried as TriedStruct}
 use Rattle.portions.specs.Portions.{Running, is_running, row_count, fresh, within, judged, judge, one_more, go, rounds_made, start, inverse_weights, begin, on}
 use Rattle.portions.specs.Laws.{Settled}
 use Rattle.portions.proofs.PortionLaws.{counts, or_left, or_right, more_settled, go_stays, go_more, go_none, none_made, made_stays, made_more}
-use Rattle.by_rounds.specs.Run.{run_number}
-use Rattle.by_rounds.specs.declared.ends.Run.TheVariants.{First}
 use Rattle.by_rounds.specs.Running.{running_in, worked, Went, WentBy, StandsBy}
 use Rattle.by_rounds.specs.declared.ends.Going.{Going as GoingStruct}
 use Rattle.by_rounds.specs.declared.portion.Portion.{Portion as PortionStruct}
@@ -37,7 +35,7 @@ module _ (sc : Scene) (c : SceneStruct) (p : PartsStruct) (q : Parameters) (s u 
   abbrev after : Tried → Running
   after t =
       judged sc q (not t.better || leb q.rounds (suc g.done))
-      (record { x = t.state.x; first = first_in c p s; r = t.state.r; mu = t.state.mu; done = suc g.done; run = run_number g.run })
+      (record { x = t.state.x; first = first_in c p s; r = t.state.r; mu = t.state.mu; done = suc g.done; run = g.run })
 
   more_after : one_more sc q (weights_in c p s) (running_in c p s g) ≡ after (one_round (rows_of sc) (weights_in c p s) (state_in c p s (norm2 (rows_in c p s)) g.mu))
   unfolding one_more
@@ -50,7 +48,7 @@ module _ (sc : Scene) (c : SceneStruct) (p : PartsStruct) (q : Parameters) (s u 
       let d : g.done + 1 ≡ suc g.done = add-one g.done in
       let k : stop ≡ (not r.better || leb q.rounds (suc g.done)) = f ∙ ap (λ (n : ℕ). not r.better || leb q.rounds n) d in
       let a : judged sc q stop (running_in c p u (record { mu = r.mu; done = g.done + 1; run = g.run })) ≡ after (tried_in c p u r)
-      = λ z. judged sc q (k z) (record { x = unknowns_in c p u; first = m.keeps.first z; r = rows_in c p u; mu = r.mu; done = d z; run = run_number g.run }) in
+      = λ z. judged sc q (k z) (record { x = unknowns_in c p u; first = m.keeps.first z; r = rows_in c p u; mu = r.mu; done = d z; run = g.run }) in
       let b : tried_in c p u r ≡ one_round (rows_of sc) (weights_in c p s) (state_in c p s (norm2 (rows_in c p s)) g.mu)
       = m.tried ∙ ap (λ (w : Float). one_round (rows_of sc) (weights_in c p s) (state_in c p s w g.mu)) e in
       record { running = w.running ∙ a ∙ ap after b ∙ sym more_after; weights = w.weights ∙ m.keeps.weights; size = w.size ∙ m.keeps.size }
@@ -78,7 +76,7 @@ pub record Few (c : SceneStruct) (e : GoingStruct) : Type 0 where
   pub done : e.done < 1000
 
 pub few_left : (sheet : List ℕ) (c : SceneStruct) (p : PartsStruct) (q : Parameters) (t : List Float) (e : GoingStruct) (running : Bool) → Laid sheet c → in_range q ≡ true
-    → Settled (scene_of sheet c) q (running_in c p t e) → running ≡ is_running (run_number e.run) → running ≡ true → Few c e
+    → Settled (scene_of sheet c) q (running_in c p t e) → running ≡ is_running e.run → running ≡ true → Few c e
 few_left sheet c p q t e running l range h f k =
     let n = counts q range in
     let a = or_right (within (scene_of sheet c) q (rows_in c p t)) _ (h (sym f ∙ k)) in
@@ -87,7 +85,7 @@ few_left sheet c p q t e running l range h f k =
     let z = row_count_is sheet c l in
     record { rows = omega (arith, under, z); done = omega (arith, made, n.most) }
 
-module _ (sc : Scene) (c : SceneStruct) (p : PartsStruct) (q : Parameters) (s t : List Float) (g e : GoingStruct) (portion i made : ℕ) (running : Bool) (a : Gone sc c p q s t g e portion i made) (f : running ≡ is_running (run_number e.run)) where
+module _ (sc : Scene) (c : SceneStruct) (p : PartsStruct) (q : Parameters) (s t : List Float) (g e : GoingStruct) (portion i made : ℕ) (running : Bool) (a : Gone sc c p q s t g e portion i made) (f : running ≡ is_running e.run) where
   pub gone_on_lem : (u : List Float) (next : GoingStruct) → in_range q ≡ true → i < portion → running ≡ true → Went c p t u next (one_more sc q (weights_in c p t) (running_in c p t e))
       → Gone sc c p q s u g next portion (i + 1) (made + 1)
   gone_on_lem u next range h k w =
@@ -162,13 +160,13 @@ ready_gone sc c p q s t u g h a b winv portion x w e =
 -- begun, the rows of the first unknowns worked
 pub begun_is : (sc : Scene) (c : SceneStruct) (p : PartsStruct) (q : Parameters) (drag : Option ℕ) (s t u v w : List Float) (g : GoingStruct) → c.n ≡ unknowns sc → Arranged c p (length s)
     → Put s t p.weights c.n (map inverse_weight (weights sc q.drag_weight drag)) → Put t u p.x c.n (list_of start_at c.n) → Put u v p.first c.n (list_of start_at c.n)
-    → Went c p v w g (worked sc (running_in c p v (at_begin First)))
+    → Went c p v w g (worked sc (running_in c p v (at_begin 1)))
     → let zeros = list_of start_at (unknowns sc) in Ready c p s w g (fresh sc 1 zeros zeros) (inverse_weights sc q drag)
 begun_is sc c p q drag s t u v w g n at a b d y =
     let zeros = list_of start_at (unknowns sc) in
     let x : unknowns_in c p v ≡ zeros = kept_part_above u v p.first (p.first + c.n) p.x c.n at.first d.kept ∙ b.holds ∙ ap (list_of start_at) n in
     let first : first_in c p v ≡ zeros = d.holds ∙ ap (list_of start_at) n in
-    let e : worked sc (running_in c p v (at_begin First)) ≡ fresh sc 1 zeros zeros
+    let e : worked sc (running_in c p v (at_begin 1)) ≡ fresh sc 1 zeros zeros
     = λ z. record { x = x z; first = first z; r = rows_of sc (x z); mu = of_bits binary64 0x3DDB_7CDF_D9D7_BDBB; done = 0; run = 1 } in
     record {
       running = y.running ∙ e;
@@ -187,7 +185,7 @@ weighed_is sc c p q drag s t g at a =
     let x : unknowns_in c p t ≡ unknowns_in c p s = kept_part_below s t p.weights (p.weights + c.n) p.x c.n (omega arith) a.kept in
     let first : first_in c p t ≡ first_in c p s = kept_part_below s t p.weights (p.weights + c.n) p.first c.n (omega arith) a.kept in
     let r : rows_in c p t ≡ rows_in c p s = kept_part_above s t p.weights (p.weights + c.n) p.rows c.rows (omega arith) a.kept in
-    record { running = λ z. record { x = x z; first = first z; r = r z; mu = g.mu; done = g.done; run = run_number g.run }; weights = a.holds; size = a.kept.size }
+    record { running = λ z. record { x = x z; first = first z; r = r z; mu = g.mu; done = g.done; run = g.run }; weights = a.holds; size = a.kept.size }
 
 module _ (sc : Scene) (q : Parameters) (drag : Option ℕ) (portion : ℕ) where
   pub begin_is : go sc q (inverse_weights sc q drag) portion (start sc q) ≡ begin sc q drag portion

@@ -1,8 +1,7 @@
 -- A running state taken from the caller's memory and put there again: what stands where, part by part and as one list; the flag by the errors filled in. Assumes nothing.
-use mathlib.Core.Path.{◌≡◌, refl, sym, ap, subst, ◌∙◌}
-use mathlib.Core.Bool.{Bool, true, false, not, ◌&&◌}
+use mathlib.Core.Path.{◌≡◌, refl, ap, subst, ◌∙◌}
+use mathlib.Core.Bool.{Bool, ◌&&◌}
 use mathlib.Core.List.{List, [], ◌∷◌, ◌++◌, map, append_assoc}
-use mathlib.Core.Option.{Option}
 use Prim.Native.Nat.{ℕ, suc, ◌+◌, ◌*◌, ◌≤◌}
 use native.Mathlib.Omega.{arith}
 use lib.ListN.{length, get_or, set, take, drop}
@@ -24,9 +23,8 @@ use Rattle.rounds.specs.Rounds.{unknowns_in, first_in, rows_in}
 use Rattle.rounds.specs.declared.parts.SolveParts.{SolveParts as PartsStruct}
 use Rattle.placement.specs.Answer.{Shown}
 use Rattle.closeness.specs.HowClosely.{all_within}
-use Rattle.portions.specs.Portions.{Running, run_of, begin, on, begin_made, on_made, answer_at}
-use Rattle.by_rounds.specs.Run.{run_number}
-use Rattle.by_rounds.specs.Running.{running_in, Stands, StandsBy}
+use Rattle.portions.specs.Portions.{Running, run_of, answer_at}
+use Rattle.by_rounds.specs.Running.{running_in, Stands}
 use Rattle.by_rounds.specs.State.{state_size, held_in}
 use Rattle.by_rounds.specs.Held.{HeldPut, Left}
 use Rattle.by_rounds.specs.declared.ends.Going.{Going as GoingStruct}
@@ -37,7 +35,7 @@ use Rattle.by_rounds.specs.declared.held.Reached.{Reached as ReachedStruct}
 
 pub taken_is : (c : SceneStruct) (p : PartsStruct) (s t u v : List Float) (done run : ℕ) (state : List Float) (g : GoingStruct) → Arranged c p (length s)
     → Put s t p.x c.n (part state 1 c.n) → Put t u p.first c.n (part state (1 + c.n) c.n) → Put u v p.rows c.rows (part state (1 + 2 * c.n) c.rows)
-    → g.mu ≡ get_or state 0 nan → g.done ≡ done → run_number g.run ≡ run_of run → Stands c p s v g (held_in c.n c.rows done run state)
+    → g.mu ≡ get_or state 0 nan → g.done ≡ done → g.run ≡ run_of run → Stands c p s v g (held_in c.n c.rows done run state)
 taken_is c p s t u v done run state g at a b d m e f =
     let x : unknowns_in c p v ≡ part state 1 c.n
     = kept_part_below u v p.rows (p.rows + c.rows) p.x c.n (omega arith) d.kept

@@ -10,7 +10,6 @@ use Rattle.rounds.specs.Rounds.{unknowns_in, first_in, rows_in}
 use Rattle.rounds.specs.declared.parts.SolveParts.{SolveParts as PartsStruct}
 use Rattle.placement.specs.Answer.{frames_doubles}
 use Rattle.portions.specs.Portions.{Running, answer_at}
-use Rattle.by_rounds.specs.Run.{run_number}
 use Rattle.by_rounds.specs.State.{state_size, state_doubles}
 use Rattle.by_rounds.specs.declared.held.Reached.{Reached as ReachedStruct}
 
@@ -36,7 +35,7 @@ pub record HeldPut (c : SceneStruct) (p : PartsStruct) (s : List Float) (mu : Fl
 pub record Left (sc : Scene) (q : Parameters) (c : SceneStruct) (st : Running) (made : ℕ) (state state' poses poses' frames frames' errors errors' : List Float) (e : ReachedStruct) : Type 0 where
   pub state_is : state' ≡ state_doubles st ++ drop (state_size c.n c.rows) state
   pub done_is : e.done ≡ st.done
-  pub run_is : run_number e.run ≡ st.run
+  pub run_is : e.run ≡ st.run
   -- the code makes as many rounds as the definition
   pub made_is : e.made ≡ made
   -- the answer for the unknowns of the state

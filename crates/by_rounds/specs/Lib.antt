@@ -1,4 +1,3 @@
-pub mod Run
 pub mod Running
 pub mod State
 pub mod Held

@@ -6,12 +6,11 @@ use Rattle.scene.specs.declared.scene.Scene.{Scene as SceneStruct}
 use Rattle.rounds.specs.Rounds.{weights_in, unknowns_in, first_in, rows_in}
 use Rattle.rounds.specs.declared.parts.SolveParts.{SolveParts as PartsStruct}
 use Rattle.portions.specs.Portions.{Running}
-use Rattle.by_rounds.specs.Run.{run_number}
 use Rattle.by_rounds.specs.declared.ends.Going.{Going as GoingStruct}
 use Rattle.by_rounds.specs.declared.portion.Portion.{Portion as PortionStruct}
 
 abbrev pub running_in : SceneStruct → PartsStruct → List Float → GoingStruct → Running
-running_in c p s g = record { x = unknowns_in c p s; first = first_in c p s; r = rows_in c p s; mu = g.mu; done = g.done; run = run_number g.run }
+running_in c p s g = record { x = unknowns_in c p s; first = first_in c p s; r = rows_in c p s; mu = g.mu; done = g.done; run = g.run }
 
 -- the same state with the rows of its unknowns
 abbrev pub worked : Scene → Running → Running

@@ -6,7 +6,6 @@ ghost use Rattle.scene.specs.Sheet.{sheet_scene};
 ghost use Rattle.rounds.specs.Solver.{parts_end};
 ghost use Rattle.rounds.specs.Rounds as rounds_spec;
 ghost use Rattle.portions.specs.Portions as portions;
-ghost use Rattle.by_rounds.specs.Run.{run_number};
 ghost use Rattle.by_rounds.specs.Running as spec;
 
 use least_squares::lm::copy;
@@ -16,55 +15,22 @@ use rounds::rounds::within;
 use scene::parameters::Parameters;
 use scene::scene::Scene;
 
-// Which run of its two a running state is in.
-#[derive(Clone, Copy, PartialEq, Eq)]
-pub enum Run {
-    First,
-    Retry,
-    Finished,
-}
-
-impl Run {
-    // True if there may be a round to come.
-    pub fn is_running(self) -> bool
-        ensures { result ≡ portions.is_running (run_number self) }
-    {
-        self != Run::Finished
-    }
-}
-
-// The number that the caller holds.
-impl From<Run> for u8 {
-    ghost from_gives = { λ run n. n ≡ run_number run };
-
-    fn from(run: Run) -> u8 {
-        match run {
-            Run::First => 1,
-            Run::Retry => 2,
-            Run::Finished => 3,
-        }
-    }
-}
-
-// Any other number than 1 and 2 counts as finished.
-impl From<u8> for Run {
-    ghost from_gives = { λ n run. run_number run ≡ portions.run_of n };
-
-    fn from(n: u8) -> Run {
-        match n {
-            1 => Run::First,
-            2 => Run::Retry,
-            _ => Run::Finished,
-        }
-    }
-}
-
-// What of a running state goes by value: the damping, the rounds that the present run has made, and which run it is.
+// What of a running state goes by value: the damping, the rounds that the present run has made, and which run it is: 1 the first, 2 the retry, 3 finished.
 #[derive(Clone, Copy)]
 pub struct Going {
     pub mu: f64,
     pub done: u32,
-    pub run: Run,
+    pub run: u8,
+}
+
+// Whether there may be a round to come.
+pub fn is_running(run: u8) -> bool
+    ensures { result ≡ portions.is_running run }
+{
+    if run == 1 {
+        return true;
+    }
+    run == 2
 }
 
 // Whether a run that begins makes no round: nothing moves, or there are more rows than the limit.
@@ -96,7 +62,7 @@ fn end_retry(solver: Solver, s: &mut [f64], converged: bool, g: Going) -> Going
     let end = Going {
         mu: g.mu,
         done: g.done,
-        run: Run::Finished,
+        run: 3,
     };
     let kept = better(solver, s, converged);
     if kept {
@@ -118,7 +84,7 @@ fn begin_retry(solver: Solver, s: &mut [f64], q: Parameters) -> Going
     let start = Going {
         mu: 1e-10,
         done: 0,
-        run: Run::Retry,
+        run: 2,
     };
     let g = worked(solver, s, start);
     let near = within(s, scene, p, q.tolerance);
@@ -136,21 +102,21 @@ fn end_run(solver: Solver, s: &mut [f64], q: Parameters, converged: bool, g: Goi
     requires scratch { parts_end solver ≤ length s.old }
     ensures { spec.Went solver.entry.sheet.scene solver.entry.parts s.old s.new result (portions.end_run (sheet_scene solver.entry.sheet) (parameters_of q) converged (spec.running_in solver.entry.sheet.scene solver.entry.parts s.old g)) }
 {
-    let Run::First = g.run else {
+    if g.run != 1 {
         return end_retry(solver, s, converged, g);
-    };
+    }
     if converged {
         return Going {
             mu: g.mu,
             done: g.done,
-            run: Run::Finished,
+            run: 3,
         };
     }
     if solver.sheet.scene.n == 0 {
         return Going {
             mu: g.mu,
             done: g.done,
-            run: Run::Finished,
+            run: 3,
         };
     }
     begin_retry(solver, s, q)
@@ -187,7 +153,7 @@ pub fn judge(solver: Solver, s: &mut [f64], q: Parameters, g: Going) -> Going
     requires scratch { parts_end solver ≤ length s.old }
     ensures { spec.Went solver.entry.sheet.scene solver.entry.parts s.old s.new result (portions.judge (sheet_scene solver.entry.sheet) (parameters_of q) (spec.running_in solver.entry.sheet.scene solver.entry.parts s.old g)) }
 {
-    if g.run.is_running() {
+    if is_running(g.run) {
         let stop = is_over(solver.sheet.scene, q, g.done);
         return judged(solver, s, q, stop, g);
     }

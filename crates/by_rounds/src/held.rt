@@ -3,6 +3,7 @@
 ghost use Rattle.std.specs.Prelude.{◌≡◌, ◌+◌, ◌*◌, ◌≤◌, length};
 ghost use Rattle.closeness.specs.HowClosely as closeness;
 ghost use Rattle.scene.specs.Scene.{parameters_of};
+ghost use Rattle.portions.specs.Portions as portions;
 ghost use Rattle.scene.specs.Sheet.{sheet_scene};
 ghost use Rattle.rounds.specs.Parts.{Arranged};
 ghost use Rattle.rounds.specs.Solver.{parts_end};
@@ -10,7 +11,7 @@ ghost use Rattle.by_rounds.specs.Running as spec;
 ghost use Rattle.by_rounds.specs.State as state_spec;
 ghost use Rattle.by_rounds.specs.Held as held;
 
-use crate::ends::{Going, Run};
+use crate::ends::{Going, is_running};
 use crate::portion::Portion;
 use placement::solve::{copy_over, put_answer};
 use rounds::parts::{SolveParts, Solver};
@@ -22,9 +23,19 @@ use scene::scene::Scene;
 #[derive(Clone, Copy)]
 pub struct Reached {
     pub done: u32,
-    pub run: Run,
+    pub run: u8,
     pub made: usize,
     pub converged: bool,
+}
+
+// Which run a call goes on with: any other number than 1 and 2 counts as finished.
+fn run_of(run: u8) -> u8
+    ensures { result ≡ portions.run_of run }
+{
+    if is_running(run) {
+        return run;
+    }
+    3
 }
 
 // The running state that the caller holds, taken to the scratch.
@@ -48,7 +59,7 @@ pub fn take_held(
     Going {
         mu: state[0],
         done,
-        run: Run::from(run),
+        run: run_of(run),
     }
 }
 

@@ -12,7 +12,7 @@ ghost use Rattle.portions.specs.Portions as portions;
 ghost use Rattle.portions.specs.Laws as laws;
 ghost use Rattle.by_rounds.specs.Running as spec;
 
-use crate::ends::{Going, Run, judge, judged, no_round, worked};
+use crate::ends::{Going, is_running, judge, judged, no_round, worked};
 use placement::solve::put_start;
 use rounds::parts::Solver;
 use rounds::trial::squares;
@@ -70,7 +70,7 @@ fn go(solver: Solver, s: &mut [f64], q: Parameters, portion: usize, g: Going) ->
     let mut e = g;
     let mut made: usize = 0;
     for i in 0..portion {
-        if e.run.is_running() {
+        if is_running(e.run) {
             let next = one_more(solver, s, q, e);
             e = next;
             made += 1;
@@ -103,7 +103,7 @@ pub fn begin(
     let start = Going {
         mu: 1e-10,
         done: 0,
-        run: Run::First,
+        run: 1,
     };
     let fresh = worked(solver, s, start);
     let stop = no_round(solver.sheet.scene, q);

@@ -38,7 +38,7 @@ fn put_bodies(sheet: Sheet, s: &mut [f64], freedoms: &mut [f64])
     ensures { spec.BodiesFreed (sheet_scene sheet.entry) sheet.entry.scene.m s.old s.new freedoms.old freedoms.new }
 {
     let m = sheet.scene.m;
-    let parts = body_parts(sheet);
+    let parts = body_parts(sheet.scene);
     put_starts(sheet, s, parts.poses);
     for i in 0..m {
         put_body(sheet, s, freedoms, i, parts);

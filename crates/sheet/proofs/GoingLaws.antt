@@ -22,7 +22,6 @@ use Rattle.portions.specs.Laws.Own.{begun, gone}
 use Rattle.portions.proofs.PortionLaws.{makes_the_portion, portions, judges_to_the_end, finished_stays}
 use Rattle.portions.proofs.FinishLaws.{finishes, closely_at}
 use Rattle.portions.proofs.KnownLaws.{known_runs, run_known}
-use Rattle.by_rounds.specs.Run.{run_number}
 use Rattle.by_rounds.specs.State.{state_size, held_in, state_doubles}
 use Rattle.by_rounds.specs.Held.{Room, Left}
 use Rattle.by_rounds.specs.declared.held.Reached.{Reached as ReachedStruct}
@@ -78,7 +77,7 @@ module _ (s : List ℕ) (c : SceneStruct) (made : Made s c) (p : Parameters) (st
 
 module _ (s : List ℕ) (p : Parameters) (c : SceneStruct) (made : Made s c) (state state' scratch scratch' poses poses' frames frames' errors errors' : List Float) (done done' run run' flag flag' : ℕ) (e : ReachedStruct) where
   left_by : (a st : Running) (count : ℕ) → AcceptedByRounds s p (length state) (length scratch) (length poses) (length frames) (length errors)
-      → Left (scene_of s c) p c a count state state' poses poses' frames frames' errors errors' e → a ≡ st → Known st → length scratch' ≡ length scratch → done' ≡ e.done → run' ≡ run_number e.run
+      → Left (scene_of s c) p c a count state state' poses poses' frames frames' errors errors' e → a ≡ st → Known st → length scratch' ≡ length scratch → done' ≡ e.done → run' ≡ e.run
       → flag' ≡ flag_number e.converged → LeftBy s p st 0 done done' run run' state state' scratch scratch' poses poses' frames frames' errors errors' flag flag'
   left_by a st count acc l h known size de re fe =
       let w : Left (scene_at s) p c st count state state' poses poses' frames frames' errors errors' e
@@ -131,7 +130,7 @@ module _ (s : List ℕ) (p : Parameters) (drag portion : ℕ) (state scratch pos
   module _ (state' scratch' poses' frames' errors' : List Float) (n' rows' done' run' flag' : ℕ) (c : SceneStruct) (place : Option ℕ) (e : ReachedStruct) where
     pub begin_answered : (f : ℕ) → f ≡ begin_number → f ≡ 0 → Made s c → place ≡ drag_of drag → length scratch' ≡ length scratch
         → Left (scene_of s c) p c (begin (scene_of s c) p place portion) (begin_made (scene_of s c) p place portion) state state' poses poses' frames frames' errors errors' e
-        → n' ≡ c.n → rows' ≡ c.rows → done' ≡ e.done → run' ≡ run_number e.run → flag' ≡ flag_number e.converged
+        → n' ≡ c.n → rows' ≡ c.rows → done' ≡ e.done → run' ≡ e.run → flag' ≡ flag_number e.converged
         → BeginAnswer s p drag portion 0 n n' rows rows' done done' run run' state state' scratch scratch' poses poses' frames frames' errors errors' flag flag'
     begin_answered f fe z made d size l ne re de rune fle =
         let a = begin_accepted s p drag portion (length state) (length scratch) (length poses) (length frames) (length errors) (sym fe ∙ z) in
@@ -180,7 +179,7 @@ module _ (s : List ℕ) (p : Parameters) (drag portion n rows : ℕ) (state scra
     pub on_answered : (f : ℕ) → f ≡ on_number → f ≡ 0 → Made s c → place ≡ drag_of drag → length scratch' ≡ length scratch
         → Left (scene_of s c) p c (on (scene_of s c) p place portion (held_in c.n c.rows done run state)) (on_made (scene_of s c) p place portion (held_in c.n c.rows done run state))
         state state' poses poses' frames frames' errors errors' e
-        → done' ≡ e.done → run' ≡ run_number e.run → flag' ≡ flag_number e.converged
+        → done' ≡ e.done → run' ≡ e.run → flag' ≡ flag_number e.converged
         → OnAnswer s p drag portion 0 n rows done done' run run' state state' scratch scratch' poses poses' frames frames' errors errors' flag flag'
     on_answered f fe z made d size l de rune fle =
         let a = (on_accepted s p drag portion n rows (length state) (length scratch) (length poses) (length frames) (length errors) (sym fe ∙ z)).accepted in

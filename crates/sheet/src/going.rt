@@ -49,7 +49,7 @@ fn begin_by(
     *unknowns = held.scene.n as u32;
     *rows = held.scene.rows as u32;
     *done = e.done;
-    *run = u8::from(e.run);
+    *run = e.run;
     *converged = flag(e.converged);
     Ok(())
 }
@@ -87,7 +87,7 @@ fn on_by(
         held, scratch, q, place, portion, *done, *run, state, poses, frames, errors,
     );
     *done = e.done;
-    *run = u8::from(e.run);
+    *run = e.run;
     *converged = flag(e.converged);
     Ok(())
 }

@@ -6,4 +6,4 @@ use Rattle.by_rounds.proofs.held.take_held.Goals as goal
 pub returns : goal.returns
 returns c =
     let g = c.args in
-    taken_is g.scene g.p g.s.now _ _ _ g.done g.run g.state.now _ c.requires.arranged c.copy_over.ensures c.copy_over-2.ensures c.copy_over-3.ensures refl refl c.from.ensures
+    taken_is g.scene g.p g.s.now _ _ _ g.done g.run g.state.now _ c.requires.arranged c.copy_over.ensures c.copy_over-2.ensures c.copy_over-3.ensures refl refl c.run_of.ensures

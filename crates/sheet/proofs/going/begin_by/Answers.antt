@@ -51,5 +51,5 @@ returns c =
     refl
     refl
     refl
-    c.from.ensures
+    refl
     c.flag.ensures

@@ -37,5 +37,5 @@ returns c =
     c.solve_on-e.auto.s
     (rw c.scene_in-held.ensures.bytes at c.solve_on-e.ensures)
     refl
-    c.from.ensures
+    refl
     c.flag.ensures
