@@ -1,6 +1,6 @@
 // A list read word by word, from its number of records to its end. No contract can say what a file holds: what is read has no promise, what is made of it has.
 
-ghost use Rattle.std.specs.Prelude.{◌≡◌, ◌+◌, ◌*◌, ◌/◌, ◌≤◌, length};
+ghost use Rattle.std.specs.Prelude.{◌≡◌, ◌+◌, ◌*◌, ◌/◌, ◌≤◌, drop, length};
 ghost use Rattle.lists.specs.Lists as spec;
 
 use crate::answers::{Tally, counted, same};
@@ -39,10 +39,27 @@ fn open<R: Files + Eprint>(rt: &R, path: &str) -> io::Result<ListFile<R::File>> 
 // The next word after a list's end.
 pub const END: u64 = 0xFFFF_FFFF_FFFF_FFFF;
 
+// Reads until s is full, the list ends or a read fails, and returns how many bytes it put at the start of s.
+pub fn read_full(file: &mut impl Read, s: &mut [u8]) -> usize
+    ensures { result ≤ length s.new }
+{
+    let mut done = 0;
+    for _ in 0..s.len() {
+        match file.read(&mut s[done..]) {
+            Ok(n) if n > 0 => done += n,
+            _ => return done,
+        }
+        if done == s.len() {
+            return done;
+        }
+    }
+    done
+}
+
 // The next eight bytes. Those that the list lacks are FF.
 fn eight(file: &mut impl Read) -> [u8; 8] {
     let mut s = [0xFFu8; 8];
-    let _ = file.read_exact(&mut s);
+    read_full(file, &mut s);
     s
 }
 
@@ -67,11 +84,12 @@ pub fn count(file: &mut impl Read) -> u64 {
     records(word(file))
 }
 
-// Reads the first n bytes of s, which the list fills up to whole words.
+// Reads the first n bytes of s, which the list fills up to whole words, and no more of s.
 pub fn bytes(file: &mut impl Read, s: &mut [u8], n: usize)
     requires { (n + 7) / 8 * 8 ≤ length s.old }
+    ensures { drop ((n + 7) / 8 * 8) s.new ≡ drop ((n + 7) / 8 * 8) s.old }
 {
-    let _ = file.read_exact(&mut s[..(n + 7) / 8 * 8]);
+    read_full(file, &mut s[..(n + 7) / 8 * 8]);
 }
 
 // Reads the doubles of s.
@@ -103,7 +121,7 @@ pub fn tallied<F: Read, T: Into<Tally>, J: FnMut(&mut F) -> T>(file: &mut F, mut
 
 // Prints how many answers a list holds and how many of them are wrong, one more if it goes on after its records.
 fn close<F: Read + Drop>(rt: &impl Print, path: &str, mut file: F, tally: Tally) -> io::Result<()> {
-    let ends = file.read_exact(&mut [0u8]).is_err();
+    let ends = read_full(&mut file, &mut [0u8]) == 0;
     let wrong = counted(tally.wrong, ends);
     println!(rt; "{path} answers {} wrong {wrong}", tally.answers)
 }

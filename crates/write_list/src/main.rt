@@ -10,7 +10,7 @@ mod structs;
 ghost use Rattle.std.specs.Prelude.{◌≡◌, ◌+◌, ◌*◌, ◌≤◌};
 
 use lists::list;
-use lists::list::{replay, word};
+use lists::list::{read_full, replay, word};
 use sheet::saving::sheet_write;
 use std::io;
 use std::io::Read;
@@ -100,7 +100,7 @@ fn holds(file: &mut impl Read, sheet: &[u8; 43_000], n: usize) -> bool
     requires { n ≤ 42520 }
 {
     let mut want = [BEFORE; 43_000];
-    let whole = file.read_exact(&mut want[..n]).is_ok();
+    let whole = read_full(file, &mut want[..n]) == n;
     *sheet == want && whole
 }
 
