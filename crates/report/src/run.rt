@@ -64,14 +64,19 @@ fn answer(
 // Puts what `report` prints for the sheet to the front of `out`, and tells how many bytes it has. What is left in the other slices is open: they are working memory.
 pub fn report(
     sheet: &[u8],
-    scratch: &mut [f64; 8192],
-    poses: &mut [f64; 768],
-    frames: &mut [f64; 768],
-    errors: &mut [f64; 128],
-    freedoms: &mut [f64; 1856],
+    scratch: &mut [f64],
+    poses: &mut [f64],
+    frames: &mut [f64],
+    errors: &mut [f64],
+    freedoms: &mut [f64],
     out: &mut [u8],
 ) -> usize
-    requires { 8192 ≤ length out.old }
+    requires scratch_len { length scratch.old ≡ 8192 }
+    requires poses_len { length poses.old ≡ 768 }
+    requires frames_len { length frames.old ≡ 768 }
+    requires errors_len { length errors.old ≡ 128 }
+    requires freedoms_len { length freedoms.old ≡ 1856 }
+    requires in_bounds { 8192 ≤ length out.old }
     ensures { Put out.old out.new 0 result (report_of sheet.now) }
 {
     let mut converged = 0u8;
