@@ -39,8 +39,8 @@ pub fn solve_begin(
 {
     let parts = solve_parts(sheet.scene);
     let solver = Solver { sheet, parts };
-    let g = begin(solver, s, q, drag, portion);
-    put_reached(solver, s, q, g, state, poses, frames, errors)
+    let g = begin(&solver, s, q, drag, portion);
+    put_reached(&solver, s, q, g, state, poses, frames, errors)
 }
 
 // Goes on from what the caller holds, and makes a portion of rounds.
@@ -71,6 +71,6 @@ pub fn solve_on(
     let parts = solve_parts(sheet.scene);
     let solver = Solver { sheet, parts };
     let g = take_held(sheet.scene, s, parts, done, run, state);
-    let h = on(solver, s, q, drag, portion, g);
-    put_reached(solver, s, q, h, state, poses, frames, errors)
+    let h = on(&solver, s, q, drag, portion, g);
+    put_reached(&solver, s, q, h, state, poses, frames, errors)
 }

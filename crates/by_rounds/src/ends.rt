@@ -44,9 +44,9 @@ pub fn no_round(scene: Scene, q: Parameters) -> bool
 }
 
 // The rows at the unknowns at `x` are worked; all else of the running state stays.
-pub fn worked(solver: Solver, s: &mut [f64], g: Going) -> Going
-    requires scratch { parts_end solver ≤ length s.old }
-    ensures { spec.Went solver.entry.sheet.scene solver.entry.parts s.old s.new result (spec.worked (sheet_scene solver.entry.sheet) (spec.running_in solver.entry.sheet.scene solver.entry.parts s.old g)) }
+pub fn worked(solver: &Solver, s: &mut [f64], g: Going) -> Going
+    requires scratch { parts_end solver.now ≤ length s.old }
+    ensures { spec.Went solver.now.sheet.scene solver.now.parts s.old s.new result (spec.worked (sheet_scene solver.now.sheet) (spec.running_in solver.now.sheet.scene solver.now.parts s.old g)) }
 {
     let p = solver.parts;
     solver.sheet.rows_at(s, p.x, p.rows, p.poses);
@@ -54,9 +54,9 @@ pub fn worked(solver: Solver, s: &mut [f64], g: Going) -> Going
 }
 
 // The retry has ended: it is kept, or the first run's unknowns come back.
-fn end_retry(solver: Solver, s: &mut [f64], converged: bool, g: Going) -> Going
-    requires scratch { parts_end solver ≤ length s.old }
-    ensures { spec.Went solver.entry.sheet.scene solver.entry.parts s.old s.new result (portions.end_retry (sheet_scene solver.entry.sheet) converged (spec.running_in solver.entry.sheet.scene solver.entry.parts s.old g)) }
+fn end_retry(solver: &Solver, s: &mut [f64], converged: bool, g: Going) -> Going
+    requires scratch { parts_end solver.now ≤ length s.old }
+    ensures { spec.Went solver.now.sheet.scene solver.now.parts s.old s.new result (portions.end_retry (sheet_scene solver.now.sheet) converged (spec.running_in solver.now.sheet.scene solver.now.parts s.old g)) }
 {
     let p = solver.parts;
     let end = Going {
@@ -73,9 +73,9 @@ fn end_retry(solver: Solver, s: &mut [f64], converged: bool, g: Going) -> Going
 }
 
 // The retry begins, the first run having ended at the unknowns at `x`.
-fn begin_retry(solver: Solver, s: &mut [f64], q: Parameters) -> Going
-    requires scratch { parts_end solver ≤ length s.old }
-    ensures { spec.Went solver.entry.sheet.scene solver.entry.parts s.old s.new result (portions.begin_retry (sheet_scene solver.entry.sheet) (parameters_of q) (rounds_spec.unknowns_in solver.entry.sheet.scene solver.entry.parts s.old)) }
+fn begin_retry(solver: &Solver, s: &mut [f64], q: Parameters) -> Going
+    requires scratch { parts_end solver.now ≤ length s.old }
+    ensures { spec.Went solver.now.sheet.scene solver.now.parts s.old s.new result (portions.begin_retry (sheet_scene solver.now.sheet) (parameters_of q) (rounds_spec.unknowns_in solver.now.sheet.scene solver.now.parts s.old)) }
 {
     let scene = solver.sheet.scene;
     let p = solver.parts;
@@ -98,9 +98,9 @@ fn begin_retry(solver: Solver, s: &mut [f64], q: Parameters) -> Going
 }
 
 // A run has ended. Where it is the first, did not converge, and something moves, the retry begins.
-fn end_run(solver: Solver, s: &mut [f64], q: Parameters, converged: bool, g: Going) -> Going
-    requires scratch { parts_end solver ≤ length s.old }
-    ensures { spec.Went solver.entry.sheet.scene solver.entry.parts s.old s.new result (portions.end_run (sheet_scene solver.entry.sheet) (parameters_of q) converged (spec.running_in solver.entry.sheet.scene solver.entry.parts s.old g)) }
+fn end_run(solver: &Solver, s: &mut [f64], q: Parameters, converged: bool, g: Going) -> Going
+    requires scratch { parts_end solver.now ≤ length s.old }
+    ensures { spec.Went solver.now.sheet.scene solver.now.parts s.old s.new result (portions.end_run (sheet_scene solver.now.sheet) (parameters_of q) converged (spec.running_in solver.now.sheet.scene solver.now.parts s.old g)) }
 {
     if g.run != 1 {
         return end_retry(solver, s, converged, g);
@@ -123,9 +123,9 @@ fn end_run(solver: Solver, s: &mut [f64], q: Parameters, converged: bool, g: Goi
 }
 
 // A run ends where its rows are within the tolerance, and where `stop` says so.
-pub fn judged(solver: Solver, s: &mut [f64], q: Parameters, stop: bool, g: Going) -> Going
-    requires scratch { parts_end solver ≤ length s.old }
-    ensures { spec.Went solver.entry.sheet.scene solver.entry.parts s.old s.new result (portions.judged (sheet_scene solver.entry.sheet) (parameters_of q) stop (spec.running_in solver.entry.sheet.scene solver.entry.parts s.old g)) }
+pub fn judged(solver: &Solver, s: &mut [f64], q: Parameters, stop: bool, g: Going) -> Going
+    requires scratch { parts_end solver.now ≤ length s.old }
+    ensures { spec.Went solver.now.sheet.scene solver.now.parts s.old s.new result (portions.judged (sheet_scene solver.now.sheet) (parameters_of q) stop (spec.running_in solver.now.sheet.scene solver.now.parts s.old g)) }
 {
     let near = within(s, solver.sheet.scene, solver.parts, q.tolerance);
     if near {
@@ -149,9 +149,9 @@ fn is_over(scene: Scene, q: Parameters, done: u32) -> bool
 }
 
 // Before its first round a call judges the run that it goes on with.
-pub fn judge(solver: Solver, s: &mut [f64], q: Parameters, g: Going) -> Going
-    requires scratch { parts_end solver ≤ length s.old }
-    ensures { spec.Went solver.entry.sheet.scene solver.entry.parts s.old s.new result (portions.judge (sheet_scene solver.entry.sheet) (parameters_of q) (spec.running_in solver.entry.sheet.scene solver.entry.parts s.old g)) }
+pub fn judge(solver: &Solver, s: &mut [f64], q: Parameters, g: Going) -> Going
+    requires scratch { parts_end solver.now ≤ length s.old }
+    ensures { spec.Went solver.now.sheet.scene solver.now.parts s.old s.new result (portions.judge (sheet_scene solver.now.sheet) (parameters_of q) (spec.running_in solver.now.sheet.scene solver.now.parts s.old g)) }
 {
     if is_running(g.run) {
         let stop = is_over(solver.sheet.scene, q, g.done);

@@ -64,10 +64,10 @@ pub fn take_held(
 }
 
 // The running state in the scratch, put to the caller's memory.
-fn put_held(solver: Solver, s: &[f64], mu: f64, state: &mut [f64])
-    requires scratch { parts_end solver ≤ length s.now }
-    requires rows_in_bounds { 1 + 2 * solver.sheet.scene.n + solver.sheet.scene.rows ≤ length state.old }
-    ensures { held.HeldPut solver.entry.sheet.scene solver.entry.parts s.now mu state.old state.new }
+fn put_held(solver: &Solver, s: &[f64], mu: f64, state: &mut [f64])
+    requires scratch { parts_end solver.now ≤ length s.now }
+    requires rows_in_bounds { 1 + 2 * solver.now.sheet.scene.n + solver.now.sheet.scene.rows ≤ length state.old }
+    ensures { held.HeldPut solver.now.sheet.scene solver.now.parts s.now mu state.old state.new }
 {
     let scene = solver.sheet.scene;
     let p = solver.parts;
@@ -87,7 +87,7 @@ fn all_within(errors: &[f64], tolerance: f64) -> bool
 
 // The running state in the scratch and the answer for its unknowns, put to the caller's memory.
 pub fn put_reached(
-    solver: Solver,
+    solver: &Solver,
     s: &mut [f64],
     q: Parameters,
     h: Portion,
@@ -96,10 +96,10 @@ pub fn put_reached(
     frames: &mut [f64],
     errors: &mut [f64],
 ) -> Reached
-    requires scratch { parts_end solver ≤ length s.old }
-    requires room { held.Room solver.sheet.scene state.old poses.old frames.old errors.old }
-    ensures { held.Left (sheet_scene solver.entry.sheet) (parameters_of q) solver.entry.sheet.scene
-        (spec.running_in solver.entry.sheet.scene solver.entry.parts s.old h.going) h.made
+    requires scratch { parts_end solver.now ≤ length s.old }
+    requires room { held.Room solver.now.sheet.scene state.old poses.old frames.old errors.old }
+    ensures { held.Left (sheet_scene solver.now.sheet) (parameters_of q) solver.now.sheet.scene
+        (spec.running_in solver.now.sheet.scene solver.now.parts s.old h.going) h.made
         state.old state.new poses.old poses.new
         frames.old frames.new errors.old errors.new result }
 {

@@ -29,11 +29,11 @@ fn last_round(better: bool, q: Parameters, done: u32) -> bool
 }
 
 // One round more, and whether the run ends with it.
-fn one_more(solver: Solver, s: &mut [f64], q: Parameters, g: Going) -> Going
-    requires scratch { parts_end solver ≤ length s.old }
-    requires rows_bound { (solver.sheet.scene.rows ≤ 800) × (g.done < 1000) }
-    requires s_value { lm.all_finite (rounds_spec.weights_in solver.sheet.scene solver.parts s.old) ≡ true }
-    ensures { spec.Went solver.entry.sheet.scene solver.entry.parts s.old s.new result (portions.one_more (sheet_scene solver.entry.sheet) (parameters_of q) (rounds_spec.weights_in solver.entry.sheet.scene solver.entry.parts s.old) (spec.running_in solver.entry.sheet.scene solver.entry.parts s.old g)) }
+fn one_more(solver: &Solver, s: &mut [f64], q: Parameters, g: Going) -> Going
+    requires scratch { parts_end solver.now ≤ length s.old }
+    requires rows_bound { (solver.now.sheet.scene.rows ≤ 800) × (g.done < 1000) }
+    requires s_value { lm.all_finite (rounds_spec.weights_in solver.now.sheet.scene solver.now.parts s.old) ≡ true }
+    ensures { spec.Went solver.now.sheet.scene solver.now.parts s.old s.new result (portions.one_more (sheet_scene solver.now.sheet) (parameters_of q) (rounds_spec.weights_in solver.now.sheet.scene solver.now.parts s.old) (spec.running_in solver.now.sheet.scene solver.now.parts s.old g)) }
 {
     let p = solver.parts;
     let cost = squares(s, p.rows, solver.sheet.scene.rows);
@@ -56,16 +56,16 @@ pub struct Portion {
 }
 
 // At most `portion` rounds, those of both runs counted together.
-fn go(solver: Solver, s: &mut [f64], q: Parameters, portion: usize, g: Going) -> Portion
-    requires scratch { parts_end solver ≤ length s.old }
+fn go(solver: &Solver, s: &mut [f64], q: Parameters, portion: usize, g: Going) -> Portion
+    requires scratch { parts_end solver.now ≤ length s.old }
     requires q_value { definitions.in_range (parameters_of q) ≡ true }
-    requires settled { laws.Settled (sheet_scene solver.sheet) (parameters_of q) (spec.running_in solver.sheet.scene solver.parts s.old g) }
-    requires s_value { lm.all_finite (rounds_spec.weights_in solver.sheet.scene solver.parts s.old) ≡ true }
-    ensures { spec.WentBy solver.entry.sheet.scene solver.entry.parts s.old s.new result
-        (portions.go (sheet_scene solver.entry.sheet) (parameters_of q)
-        (rounds_spec.weights_in solver.entry.sheet.scene solver.entry.parts s.old) portion (spec.running_in solver.entry.sheet.scene solver.entry.parts s.old g))
-        (portions.rounds_made (sheet_scene solver.entry.sheet) (parameters_of q)
-        (rounds_spec.weights_in solver.entry.sheet.scene solver.entry.parts s.old) portion (spec.running_in solver.entry.sheet.scene solver.entry.parts s.old g)) }
+    requires settled { laws.Settled (sheet_scene solver.now.sheet) (parameters_of q) (spec.running_in solver.now.sheet.scene solver.now.parts s.old g) }
+    requires s_value { lm.all_finite (rounds_spec.weights_in solver.now.sheet.scene solver.now.parts s.old) ≡ true }
+    ensures { spec.WentBy solver.now.sheet.scene solver.now.parts s.old s.new result
+        (portions.go (sheet_scene solver.now.sheet) (parameters_of q)
+        (rounds_spec.weights_in solver.now.sheet.scene solver.now.parts s.old) portion (spec.running_in solver.now.sheet.scene solver.now.parts s.old g))
+        (portions.rounds_made (sheet_scene solver.now.sheet) (parameters_of q)
+        (rounds_spec.weights_in solver.now.sheet.scene solver.now.parts s.old) portion (spec.running_in solver.now.sheet.scene solver.now.parts s.old g)) }
 {
     let mut e = g;
     let mut made: usize = 0;
@@ -83,17 +83,17 @@ fn go(solver: Solver, s: &mut [f64], q: Parameters, portion: usize, g: Going) ->
 
 // A call that begins, for a portion of rounds.
 pub fn begin(
-    solver: Solver,
+    solver: &Solver,
     s: &mut [f64],
     q: Parameters,
     drag: Option<usize>,
     portion: usize,
 ) -> Portion
-    requires scratch { parts_end solver ≤ length s.old }
+    requires scratch { parts_end solver.now ≤ length s.old }
     requires q_value { definitions.in_range (parameters_of q) ≡ true }
-    ensures { spec.StandsBy solver.entry.sheet.scene solver.entry.parts s.old s.new result
-        (portions.begin (sheet_scene solver.entry.sheet) (parameters_of q) (body_number drag) portion)
-        (portions.begin_made (sheet_scene solver.entry.sheet) (parameters_of q) (body_number drag) portion) }
+    ensures { spec.StandsBy solver.now.sheet.scene solver.now.parts s.old s.new result
+        (portions.begin (sheet_scene solver.now.sheet) (parameters_of q) (body_number drag) portion)
+        (portions.begin_made (sheet_scene solver.now.sheet) (parameters_of q) (body_number drag) portion) }
 {
     let p = solver.parts;
     let n = solver.sheet.scene.n;
@@ -113,20 +113,20 @@ pub fn begin(
 
 // A call that goes on from the running state in the scratch, for a portion of rounds.
 pub fn on(
-    solver: Solver,
+    solver: &Solver,
     s: &mut [f64],
     q: Parameters,
     drag: Option<usize>,
     portion: usize,
     g: Going,
 ) -> Portion
-    requires scratch { parts_end solver ≤ length s.old }
+    requires scratch { parts_end solver.now ≤ length s.old }
     requires q_value { definitions.in_range (parameters_of q) ≡ true }
-    ensures { spec.StandsBy solver.entry.sheet.scene solver.entry.parts s.old s.new result
-        (portions.on (sheet_scene solver.entry.sheet) (parameters_of q) (body_number drag) portion
-        (spec.running_in solver.entry.sheet.scene solver.entry.parts s.old g))
-        (portions.on_made (sheet_scene solver.entry.sheet) (parameters_of q) (body_number drag) portion
-        (spec.running_in solver.entry.sheet.scene solver.entry.parts s.old g)) }
+    ensures { spec.StandsBy solver.now.sheet.scene solver.now.parts s.old s.new result
+        (portions.on (sheet_scene solver.now.sheet) (parameters_of q) (body_number drag) portion
+        (spec.running_in solver.now.sheet.scene solver.now.parts s.old g))
+        (portions.on_made (sheet_scene solver.now.sheet) (parameters_of q) (body_number drag) portion
+        (spec.running_in solver.now.sheet.scene solver.now.parts s.old g)) }
 {
     let p = solver.parts;
     solver.sheet.inverse_weights(s, p.weights, q.weight, drag);

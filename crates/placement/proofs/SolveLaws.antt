@@ -7,7 +7,8 @@ use Prim.Native.Nat.{ℕ, zero, suc, ◌+◌, ◌*◌, ◌≤◌, ◌<◌}
 use native.Mathlib.Omega.{arith}
 use native.Mathlib.Numerals.{add-one}
 use borrow.Author.Tests.{eq-eqb, ne_eqb}
-use lib.ListN.{length, set, drop}
+use lib.ListN.{length, get_or, set, take, drop, length-drop}
+use lib.Seq.{take-suc, get_or-drop}
 use lib.Dec.{eqb}
 use lib.Ieee.{Float, lt}
 use Rattle.numbers.specs.MaxAbs.{max_abs}
@@ -54,6 +55,11 @@ list_none f = refl
 pub list_more : {A : Type 0} (f : ℕ → A) (i : ℕ) (v : A) → v ≡ f i → list_of f i ++ (v ∷ []) ≡ list_of f (i + 1)
 unfolding list_of
 list_more f i v e = ap (λ w. list_of f i ++ (w ∷ [])) e ∙ ap (list_of f) (sym (add-one i))
+
+pub part_more : (s : List Float) (o i : ℕ) (d : Float) → o + i < length s → part s o i ++ (get_or s (o + i) d ∷ []) ≡ part s o (i + 1)
+part_more s o i d h =
+    let l : i < length (drop o s) = simp length-drop (omega arith) in
+    ap (λ (w : Float). take i (drop o s) ++ (w ∷ [])) (sym (get_or-drop o s i d)) ∙ sym (take-suc (drop o s) i d l) ∙ ap (λ (w : ℕ). take w (drop o s)) (sym (add-one i))
 
 -- ---- errors
 

@@ -58,10 +58,10 @@ pub fn put_turn(s: &mut [f64], x: usize, n: usize)
 }
 
 // The largest row at the unknowns from x on.
-fn worst(solver: Solver, s: &mut [f64], x: usize) -> f64
-    requires scratch { parts_end solver ≤ length s.old }
-    requires n_bound { x + solver.sheet.scene.n ≤ solver.parts.ahead }
-    ensures { spec.Worst (sheet_scene solver.entry.sheet) solver.entry.sheet.scene solver.entry.parts s.old s.new x result }
+fn worst(solver: &Solver, s: &mut [f64], x: usize) -> f64
+    requires scratch { parts_end solver.now ≤ length s.old }
+    requires n_bound { x + solver.now.sheet.scene.n ≤ solver.now.parts.ahead }
+    ensures { spec.Worst (sheet_scene solver.now.sheet) solver.now.sheet.scene solver.now.parts s.old s.new x result }
 {
     let p = solver.parts;
     solver.sheet.rows_at(s, x, p.ahead, p.poses);
@@ -69,9 +69,9 @@ fn worst(solver: Solver, s: &mut [f64], x: usize) -> f64
 }
 
 // Whether the retry at `x` is to be kept: it converged, or its largest row is smaller than that of the first run's unknowns at `first`.
-pub fn better(solver: Solver, s: &mut [f64], converged: bool) -> bool
-    requires scratch { parts_end solver ≤ length s.old }
-    ensures { spec.Better (sheet_scene solver.entry.sheet) solver.entry.sheet.scene solver.entry.parts s.old s.new converged result }
+pub fn better(solver: &Solver, s: &mut [f64], converged: bool) -> bool
+    requires scratch { parts_end solver.now ≤ length s.old }
+    ensures { spec.Better (sheet_scene solver.now.sheet) solver.now.sheet.scene solver.now.parts s.old s.new converged result }
 {
     let p = solver.parts;
     if converged {
@@ -83,11 +83,11 @@ pub fn better(solver: Solver, s: &mut [f64], converged: bool) -> bool
 }
 
 // The retry, the first run having ended unconverged at the unknowns at `x`. Whether it converged; where it is not kept, the first run's unknowns come back.
-fn retry(solver: Solver, s: &mut [f64], q: Parameters) -> bool
-    requires scratch { parts_end solver ≤ length s.old }
+fn retry(solver: &Solver, s: &mut [f64], q: Parameters) -> bool
+    requires scratch { parts_end solver.now ≤ length s.old }
     requires limit { q.limit ≤ 800 }
-    requires s_value { lm.all_finite (rounds_spec.weights_in solver.sheet.scene solver.parts s.old) ≡ true }
-    ensures { (first : lm.Outcome) → first.converged ≡ false → first.x ≡ rounds_spec.unknowns_in solver.entry.sheet.scene solver.entry.parts s.old → spec.Ended solver.entry.sheet.scene solver.entry.parts s.old s.new (definitions.better (sheet_scene solver.entry.sheet) first (lm.run (definitions.rows_of (sheet_scene solver.entry.sheet)) (rounds_spec.weights_in solver.entry.sheet.scene solver.entry.parts s.old) q.tolerance q.rounds q.limit (lm.list_of definitions.slight_turn solver.entry.sheet.scene.n))) result }
+    requires s_value { lm.all_finite (rounds_spec.weights_in solver.now.sheet.scene solver.now.parts s.old) ≡ true }
+    ensures { (first : lm.Outcome) → first.converged ≡ false → first.x ≡ rounds_spec.unknowns_in solver.now.sheet.scene solver.now.parts s.old → spec.Ended solver.now.sheet.scene solver.now.parts s.old s.new (definitions.better (sheet_scene solver.now.sheet) first (lm.run (definitions.rows_of (sheet_scene solver.now.sheet)) (rounds_spec.weights_in solver.now.sheet.scene solver.now.parts s.old) q.tolerance q.rounds q.limit (lm.list_of definitions.slight_turn solver.now.sheet.scene.n))) result }
 {
     let scene = solver.sheet.scene;
     let p = solver.parts;
@@ -103,10 +103,10 @@ fn retry(solver: Solver, s: &mut [f64], q: Parameters) -> bool
 }
 
 // Both runs. Whether the one that is kept converged.
-fn solved(solver: Solver, s: &mut [f64], q: Parameters, drag: Option<usize>) -> bool
-    requires scratch { parts_end solver ≤ length s.old }
+fn solved(solver: &Solver, s: &mut [f64], q: Parameters, drag: Option<usize>) -> bool
+    requires scratch { parts_end solver.now ≤ length s.old }
     requires limit { q.limit ≤ 800 }
-    ensures { spec.Ended solver.entry.sheet.scene solver.entry.parts s.old s.new (definitions.solved (sheet_scene solver.entry.sheet) (parameters_of q) (body_number drag)) result }
+    ensures { spec.Ended solver.now.sheet.scene solver.now.parts s.old s.new (definitions.solved (sheet_scene solver.now.sheet) (parameters_of q) (body_number drag)) result }
 {
     let p = solver.parts;
     let n = solver.sheet.scene.n;
@@ -128,7 +128,9 @@ pub fn copy_over(s: &[f64], o: usize, d: &mut [f64], at: usize, k: usize)
     requires k_in_bounds_2 { at + k ≤ length d.old }
     ensures { Put d.old d.new at k (part s.now o k) }
 {
-    d[at..at + k].copy_from_slice(&s[o..o + k]);
+    for (i, &x) in s[o..o + k].iter().enumerate() {
+        d[at + i] = x;
+    }
 }
 
 fn put_frame(d: &mut [f64], o: usize, f: Frame)
@@ -168,17 +170,17 @@ fn put_errors(sheet: Sheet, s: &[f64], p: usize, errors: &mut [f64])
 
 // The answer for the unknowns at `x`: 12 doubles a body to `poses` and to `frames`, an error for each relation to `errors`.
 pub fn put_answer(
-    solver: Solver,
+    solver: &Solver,
     s: &mut [f64],
     poses: &mut [f64],
     frames: &mut [f64],
     errors: &mut [f64],
 )
-    requires scratch { parts_end solver ≤ length s.old }
-    requires m_in_bounds { 12 * solver.sheet.scene.m ≤ length poses.old }
-    requires m_in_bounds_2 { 12 * solver.sheet.scene.m ≤ length frames.old }
-    requires k_in_bounds { solver.sheet.scene.k ≤ length errors.old }
-    ensures { spec.Shown (sheet_scene solver.entry.sheet) solver.entry.sheet.scene.m solver.entry.sheet.scene.k (rounds_spec.unknowns_in solver.entry.sheet.scene solver.entry.parts s.old) poses.old poses.new frames.old frames.new errors.old errors.new }
+    requires scratch { parts_end solver.now ≤ length s.old }
+    requires m_in_bounds { 12 * solver.now.sheet.scene.m ≤ length poses.old }
+    requires m_in_bounds_2 { 12 * solver.now.sheet.scene.m ≤ length frames.old }
+    requires k_in_bounds { solver.now.sheet.scene.k ≤ length errors.old }
+    ensures { spec.Shown (sheet_scene solver.now.sheet) solver.now.sheet.scene.m solver.now.sheet.scene.k (rounds_spec.unknowns_in solver.now.sheet.scene solver.now.parts s.old) poses.old poses.new frames.old frames.new errors.old errors.new }
 {
     let p = solver.parts;
     solver.sheet.poses_at(s, p.x, p.poses);
@@ -206,7 +208,7 @@ pub fn solve(
 {
     let parts = solve_parts(sheet.scene);
     let solver = Solver { sheet, parts };
-    let converged = solved(solver, s, q, drag);
-    put_answer(solver, s, poses, frames, errors);
+    let converged = solved(&solver, s, q, drag);
+    put_answer(&solver, s, poses, frames, errors);
     converged
 }

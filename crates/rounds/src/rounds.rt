@@ -32,10 +32,10 @@ pub fn within(s: &[f64], scene: Scene, p: SolveParts, tolerance: f64) -> bool
 
 impl Solver<'_> {
     // At most 12 trials, up to the first that is better.
-    fn trials(self, s: &mut [f64], cost: f64, mu: f64) -> Tried
-        requires scratch { parts_end self ≤ length s.old }
-        requires rows_bound { self.sheet.scene.rows ≤ 800 }
-        ensures { spec.TrialsMade (sheet_scene self.entry.sheet) self.entry.sheet.scene self.entry.parts s.old s.new cost mu result }
+    fn trials(&self, s: &mut [f64], cost: f64, mu: f64) -> Tried
+        requires scratch { parts_end self.now ≤ length s.old }
+        requires rows_bound { self.now.sheet.scene.rows ≤ 800 }
+        ensures { spec.TrialsMade (sheet_scene self.now.sheet) self.now.sheet.scene self.now.parts s.old s.new cost mu result }
     {
         let mut stiffness = mu;
         for i in 0usize..12 {
@@ -53,11 +53,11 @@ impl Solver<'_> {
     }
 
     // The slopes, the matrix, and at most 12 trials. The filling of slopes is lent the scratch from the unknowns on, the forming of the matrix from the slopes on.
-    pub fn one_round(self, s: &mut [f64], cost: f64, mu: f64) -> Tried
-        requires scratch { parts_end self ≤ length s.old }
-        requires rows_bound { self.sheet.scene.rows ≤ 800 }
-        requires s_value { lm.all_finite (spec.weights_in self.sheet.scene self.parts s.old) ≡ true }
-        ensures { spec.RoundMade (sheet_scene self.entry.sheet) self.entry.sheet.scene self.entry.parts s.old s.new cost mu result }
+    pub fn one_round(&self, s: &mut [f64], cost: f64, mu: f64) -> Tried
+        requires scratch { parts_end self.now ≤ length s.old }
+        requires rows_bound { self.now.sheet.scene.rows ≤ 800 }
+        requires s_value { lm.all_finite (spec.weights_in self.now.sheet.scene self.now.parts s.old) ≡ true }
+        ensures { spec.RoundMade (sheet_scene self.now.sheet) self.now.sheet.scene self.now.parts s.old s.new cost mu result }
     {
         let scene = self.sheet.scene;
         let p = self.parts;
@@ -69,11 +69,11 @@ impl Solver<'_> {
     }
 
     // At most `most` rounds. A run ends where its rows are within the tolerance, or a round brings nothing better.
-    fn rounds(self, s: &mut [f64], tolerance: f64, most: usize, cost: f64, mu: f64) -> RunEnd
-        requires scratch { parts_end self ≤ length s.old }
-        requires rows_bound { self.sheet.scene.rows ≤ 800 }
-        requires s_value { lm.all_finite (spec.weights_in self.sheet.scene self.parts s.old) ≡ true }
-        ensures { spec.Ran self.entry.sheet.scene self.entry.parts s.old s.new (lm.rounds (definitions.rows_of (sheet_scene self.entry.sheet)) (spec.weights_in self.entry.sheet.scene self.entry.parts s.old) tolerance most 0 (spec.state_in self.entry.sheet.scene self.entry.parts s.old cost mu)) result }
+    fn rounds(&self, s: &mut [f64], tolerance: f64, most: usize, cost: f64, mu: f64) -> RunEnd
+        requires scratch { parts_end self.now ≤ length s.old }
+        requires rows_bound { self.now.sheet.scene.rows ≤ 800 }
+        requires s_value { lm.all_finite (spec.weights_in self.now.sheet.scene self.now.parts s.old) ≡ true }
+        ensures { spec.Ran self.now.sheet.scene self.now.parts s.old s.new (lm.rounds (definitions.rows_of (sheet_scene self.now.sheet)) (spec.weights_in self.now.sheet.scene self.now.parts s.old) tolerance most 0 (spec.state_in self.now.sheet.scene self.now.parts s.old cost mu)) result }
     {
         let mut c = cost;
         let mut d = mu;
@@ -103,11 +103,11 @@ impl Solver<'_> {
 
     // A run from the unknowns at `x`, with the damping 1e-10 at first; over the row limit there are no rounds.
     #[tactic(auto, using(crate::proofs::RunLaws::still_end))]
-    pub fn run(self, s: &mut [f64], q: Parameters) -> RunEnd
-        requires scratch { parts_end self ≤ length s.old }
+    pub fn run(&self, s: &mut [f64], q: Parameters) -> RunEnd
+        requires scratch { parts_end self.now ≤ length s.old }
         requires limit { q.limit ≤ 800 }
-        requires s_value { lm.all_finite (spec.weights_in self.sheet.scene self.parts s.old) ≡ true }
-        ensures { spec.Ran self.entry.sheet.scene self.entry.parts s.old s.new (lm.run (definitions.rows_of (sheet_scene self.entry.sheet)) (spec.weights_in self.entry.sheet.scene self.entry.parts s.old) q.tolerance q.rounds q.limit (spec.unknowns_in self.entry.sheet.scene self.entry.parts s.old)) result }
+        requires s_value { lm.all_finite (spec.weights_in self.now.sheet.scene self.now.parts s.old) ≡ true }
+        ensures { spec.Ran self.now.sheet.scene self.now.parts s.old s.new (lm.run (definitions.rows_of (sheet_scene self.now.sheet)) (spec.weights_in self.now.sheet.scene self.now.parts s.old) q.tolerance q.rounds q.limit (spec.unknowns_in self.now.sheet.scene self.now.parts s.old)) result }
     {
         let scene = self.sheet.scene;
         let p = self.parts;

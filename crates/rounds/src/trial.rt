@@ -46,10 +46,10 @@ fn softer(mu: f64) -> f64
 
 impl Solver<'_> {
     // The equations of a step, their matrix damped by mu of its largest diagonal entry, solved. Whether there is an answer.
-    fn answer(self, s: &mut [f64], mu: f64) -> bool
-        requires scratch { parts_end self ≤ length s.old }
-        requires rows_bound { self.sheet.scene.rows ≤ 800 }
-        ensures { spec.Answered self.entry.sheet.scene self.entry.parts s.old s.new mu result }
+    fn answer(&self, s: &mut [f64], mu: f64) -> bool
+        requires scratch { parts_end self.now ≤ length s.old }
+        requires rows_bound { self.now.sheet.scene.rows ≤ 800 }
+        ensures { spec.Answered self.now.sheet.scene self.now.parts s.old s.new mu result }
     {
         let p = self.parts;
         let rows = self.sheet.scene.rows;
@@ -62,10 +62,10 @@ impl Solver<'_> {
     }
 
     // The unknowns a step further, their rows, and the sum of these rows' squares.
-    fn advance(self, s: &mut [f64]) -> f64
-        requires scratch { parts_end self ≤ length s.old }
-        requires rows_bound { self.sheet.scene.rows ≤ 800 }
-        ensures { spec.Advanced (sheet_scene self.entry.sheet) self.entry.sheet.scene self.entry.parts s.old s.new result }
+    fn advance(&self, s: &mut [f64]) -> f64
+        requires scratch { parts_end self.now ≤ length s.old }
+        requires rows_bound { self.now.sheet.scene.rows ≤ 800 }
+        ensures { spec.Advanced (sheet_scene self.now.sheet) self.now.sheet.scene self.now.parts s.old s.new result }
     {
         let scene = self.sheet.scene;
         let p = self.parts;
@@ -76,9 +76,9 @@ impl Solver<'_> {
     }
 
     // The step taken.
-    fn take_step(self, s: &mut [f64])
-        requires scratch { parts_end self ≤ length s.old }
-        ensures { spec.Taken self.entry.sheet.scene self.entry.parts s.old s.new }
+    fn take_step(&self, s: &mut [f64])
+        requires scratch { parts_end self.now ≤ length s.old }
+        ensures { spec.Taken self.now.sheet.scene self.now.parts s.old s.new }
     {
         let scene = self.sheet.scene;
         let p = self.parts;
@@ -87,10 +87,10 @@ impl Solver<'_> {
     }
 
     // One trial, from the sum of squares and the damping so far.
-    pub fn trial(self, s: &mut [f64], cost: f64, mu: f64) -> Tried
-        requires scratch { parts_end self ≤ length s.old }
-        requires rows_bound { self.sheet.scene.rows ≤ 800 }
-        ensures { spec.TrialMade (sheet_scene self.entry.sheet) self.entry.sheet.scene self.entry.parts s.old s.new cost mu result }
+    pub fn trial(&self, s: &mut [f64], cost: f64, mu: f64) -> Tried
+        requires scratch { parts_end self.now ≤ length s.old }
+        requires rows_bound { self.now.sheet.scene.rows ≤ 800 }
+        ensures { spec.TrialMade (sheet_scene self.now.sheet) self.now.sheet.scene self.now.parts s.old s.new cost mu result }
     {
         let ok = self.answer(s, mu);
         if ok {

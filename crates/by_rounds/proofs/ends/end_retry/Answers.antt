@@ -8,22 +8,22 @@ use Rattle.by_rounds.proofs.EndLaws.{retry_stays, retry_goes}
 use Rattle.by_rounds.proofs.ends.end_retry.Goals as goal
 
 pub worked-requires : goal.worked-requires
-worked-requires c = record { scratch = (arranged_same c.better-kept.ensures.size (arranged_within c.args.solver.arranged c.requires.scratch)).poses }
+worked-requires c = record { scratch = (arranged_same c.better-kept.ensures.size (arranged_within c.args.solver.now.arranged c.requires.scratch)).poses }
 
 pub returns-then-kept : goal.returns-then-kept
 returns-then-kept c =
     let g = c.args in
-    retry_stays (scene_of g.solver.sheet.bytes.now g.solver.sheet.scene) g.solver.sheet.scene g.solver.parts g.s.now _ g.g g.converged _ (arranged_within c.args.solver.arranged c.requires.scratch) c.better-kept.ensures _ _ c.if-kept.true c.worked.ensures
+    retry_stays (scene_of g.solver.now.sheet.bytes.now g.solver.now.sheet.scene) g.solver.now.sheet.scene g.solver.now.parts g.s.now _ g.g g.converged _ (arranged_within c.args.solver.now.arranged c.requires.scratch) c.better-kept.ensures _ _ c.if-kept.true c.worked.ensures
 
 pub copy-requires : goal.copy-requires
 copy-requires c =
-    let a = arranged_same c.better-kept.ensures.size (arranged_within c.args.solver.arranged c.requires.scratch) in
+    let a = arranged_same c.better-kept.ensures.size (arranged_within c.args.solver.now.arranged c.requires.scratch) in
     record { k_bound = omega (arith, a.first); k_in_bounds = omega (arith, a.first, a.x, a.slopes, a.matrix, a.weights, a.damped, a.right, a.rows, a.next, a.ahead, a.poses) }
 
 pub worked-requires-2 : goal.worked-requires-2
-worked-requires-2 c = record { scratch = (arranged_same (c.copy.ensures.kept.size ∙ c.better-kept.ensures.size) (arranged_within c.args.solver.arranged c.requires.scratch)).poses }
+worked-requires-2 c = record { scratch = (arranged_same (c.copy.ensures.kept.size ∙ c.better-kept.ensures.size) (arranged_within c.args.solver.now.arranged c.requires.scratch)).poses }
 
 pub returns : goal.returns
 returns c =
     let g = c.args in
-    retry_goes (scene_of g.solver.sheet.bytes.now g.solver.sheet.scene) g.solver.sheet.scene g.solver.parts g.s.now _ g.g g.converged _ (arranged_within c.args.solver.arranged c.requires.scratch) c.better-kept.ensures _ _ _ c.if-kept.false c.copy.ensures c.worked-2.ensures
+    retry_goes (scene_of g.solver.now.sheet.bytes.now g.solver.now.sheet.scene) g.solver.now.sheet.scene g.solver.now.parts g.s.now _ g.g g.converged _ (arranged_within c.args.solver.now.arranged c.requires.scratch) c.better-kept.ensures _ _ _ c.if-kept.false c.copy.ensures c.worked-2.ensures

@@ -11,9 +11,9 @@ use Rattle.by_rounds.proofs.ends.judge.Goals as goal
 pub returns-then-is_running : goal.returns-then-is_running
 returns-then-is_running c =
     let g = c.args in
-    went_as g.solver.sheet.scene g.solver.parts g.s.now _ _ _ _ c.judged.ensures (judge_running (scene_of g.solver.sheet.bytes.now g.solver.sheet.scene) (parameters_of g.q) (running_in g.solver.sheet.scene g.solver.parts g.s.now g.g) _ _ c.is_running.ensures c.if-is_running.true (c.is_over-stop.ensures ∙ ap (λ (k : ℕ). leb g.q.rounds g.g.done || ltb 800 k) (sym (row_count_is g.solver.sheet.bytes.now g.solver.sheet.scene c.args.solver.sheet.laid))))
+    went_as g.solver.now.sheet.scene g.solver.now.parts g.s.now _ _ _ _ c.judged.ensures (judge_running (scene_of g.solver.now.sheet.bytes.now g.solver.now.sheet.scene) (parameters_of g.q) (running_in g.solver.now.sheet.scene g.solver.now.parts g.s.now g.g) _ _ c.is_running.ensures c.if-is_running.true (c.is_over-stop.ensures ∙ ap (λ (k : ℕ). leb g.q.rounds g.g.done || ltb 800 k) (sym (row_count_is g.solver.now.sheet.bytes.now g.solver.now.sheet.scene c.args.solver.now.sheet.laid))))
 
 pub returns : goal.returns
 returns c =
     let g = c.args in
-    went_none g.solver.sheet.scene g.solver.parts g.s.now _ _ (judge_finished (scene_of g.solver.sheet.bytes.now g.solver.sheet.scene) (parameters_of g.q) (running_in g.solver.sheet.scene g.solver.parts g.s.now g.g) _ c.is_running.ensures c.if-is_running.false)
+    went_none g.solver.now.sheet.scene g.solver.now.parts g.s.now _ _ (judge_finished (scene_of g.solver.now.sheet.bytes.now g.solver.now.sheet.scene) (parameters_of g.q) (running_in g.solver.now.sheet.scene g.solver.now.parts g.s.now g.g) _ c.is_running.ensures c.if-is_running.false)

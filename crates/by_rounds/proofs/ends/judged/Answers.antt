@@ -7,14 +7,14 @@ use Rattle.by_rounds.proofs.ends.judged.Goals as goal
 pub returns-then-near : goal.returns-then-near
 returns-then-near c =
     let g = c.args in
-    went_as g.solver.sheet.scene g.solver.parts g.s.now _ _ _ _ c.end_run.ensures (judged_near (scene_of g.solver.sheet.bytes.now g.solver.sheet.scene) (parameters_of g.q) (running_in g.solver.sheet.scene g.solver.parts g.s.now g.g) g.stop _ c.within-near.ensures c.if-near.true)
+    went_as g.solver.now.sheet.scene g.solver.now.parts g.s.now _ _ _ _ c.end_run.ensures (judged_near (scene_of g.solver.now.sheet.bytes.now g.solver.now.sheet.scene) (parameters_of g.q) (running_in g.solver.now.sheet.scene g.solver.now.parts g.s.now g.g) g.stop _ c.within-near.ensures c.if-near.true)
 
 pub returns-then-stop : goal.returns-then-stop
 returns-then-stop c =
     let g = c.args in
-    went_as g.solver.sheet.scene g.solver.parts g.s.now _ _ _ _ c.end_run-then-stop.ensures (judged_stop (scene_of g.solver.sheet.bytes.now g.solver.sheet.scene) (parameters_of g.q) (running_in g.solver.sheet.scene g.solver.parts g.s.now g.g) g.stop _ c.within-near.ensures c.if-near.false c.if-stop.true)
+    went_as g.solver.now.sheet.scene g.solver.now.parts g.s.now _ _ _ _ c.end_run-then-stop.ensures (judged_stop (scene_of g.solver.now.sheet.bytes.now g.solver.now.sheet.scene) (parameters_of g.q) (running_in g.solver.now.sheet.scene g.solver.now.parts g.s.now g.g) g.stop _ c.within-near.ensures c.if-near.false c.if-stop.true)
 
 pub returns : goal.returns
 returns c =
     let g = c.args in
-    went_none g.solver.sheet.scene g.solver.parts g.s.now _ _ (judged_on (scene_of g.solver.sheet.bytes.now g.solver.sheet.scene) (parameters_of g.q) (running_in g.solver.sheet.scene g.solver.parts g.s.now g.g) g.stop _ c.within-near.ensures c.if-near.false c.if-stop.false)
+    went_none g.solver.now.sheet.scene g.solver.now.parts g.s.now _ _ (judged_on (scene_of g.solver.now.sheet.bytes.now g.solver.now.sheet.scene) (parameters_of g.q) (running_in g.solver.now.sheet.scene g.solver.now.parts g.s.now g.g) g.stop _ c.within-near.ensures c.if-near.false c.if-stop.false)

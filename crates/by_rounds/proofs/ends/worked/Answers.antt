@@ -7,4 +7,4 @@ use Rattle.by_rounds.proofs.ends.worked.Goals as goal
 pub returns : goal.returns
 returns c =
     let g = c.args in
-    worked_is (scene_of g.solver.sheet.bytes.now g.solver.sheet.scene) g.solver.sheet.scene g.solver.parts g.s.now _ (arranged_within c.args.solver.arranged c.requires.scratch) c.rows_at.ensures g.g
+    worked_is (scene_of g.solver.now.sheet.bytes.now g.solver.now.sheet.scene) g.solver.now.sheet.scene g.solver.now.parts g.s.now _ (arranged_within c.args.solver.now.arranged c.requires.scratch) c.rows_at.ensures g.g

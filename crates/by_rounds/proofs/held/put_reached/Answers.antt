@@ -10,4 +10,4 @@ put_answer-requires c = record { scratch = c.requires.scratch; m_in_bounds = c.r
 pub returns : goal.returns
 returns c =
     let g = c.args in
-    left_is g.solver.sheet.bytes.now g.solver.sheet.scene g.solver.parts (parameters_of g.q) g.s.now g.h _ _ _ _ _ _ _ _ _ c.put_held.ensures c.put_answer.ensures c.all_within-converged.ensures
+    left_is g.solver.now.sheet.bytes.now g.solver.now.sheet.scene g.solver.now.parts (parameters_of g.q) g.s.now g.h _ _ _ _ _ _ _ _ _ c.put_held.ensures c.put_answer.ensures c.all_within-converged.ensures

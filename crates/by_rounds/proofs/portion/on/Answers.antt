@@ -12,24 +12,24 @@ use Rattle.by_rounds.proofs.GoLaws.{Ready, weighed_is, ready_then, ready_settled
 use Rattle.by_rounds.proofs.portion.on.Goals as goal
 
 pub judge-h-requires : goal.judge-h-requires
-judge-h-requires c = record { scratch = (arranged_same c.inverse_weights.ensures.kept.size (arranged_within c.args.solver.arranged c.requires.scratch)).poses }
+judge-h-requires c = record { scratch = (arranged_same c.inverse_weights.ensures.kept.size (arranged_within c.args.solver.now.arranged c.requires.scratch)).poses }
 
 pub go-requires : goal.go-requires
 go-requires c =
-    let judged : let g = c.args in let sc = scene_of g.solver.sheet.bytes.now g.solver.sheet.scene in Ready g.solver.sheet.scene g.solver.parts g.s.now c.judge-h.new.s c.judge-h.result (judge sc (parameters_of g.q) (running_in g.solver.sheet.scene g.solver.parts g.s.now g.g)) (inverse_weights sc (parameters_of g.q) (body_number g.drag)) =
+    let judged : let g = c.args in let sc = scene_of g.solver.now.sheet.bytes.now g.solver.now.sheet.scene in Ready g.solver.now.sheet.scene g.solver.now.parts g.s.now c.judge-h.new.s c.judge-h.result (judge sc (parameters_of g.q) (running_in g.solver.now.sheet.scene g.solver.now.parts g.s.now g.g)) (inverse_weights sc (parameters_of g.q) (body_number g.drag)) =
     let g = c.args in
-    let sc = scene_of g.solver.sheet.bytes.now g.solver.sheet.scene in
+    let sc = scene_of g.solver.now.sheet.bytes.now g.solver.now.sheet.scene in
     let q = parameters_of g.q in
-    ready_then g.solver.sheet.scene g.solver.parts g.s.now _ _ _ _ _ _ (judge sc q) (weighed_is sc g.solver.sheet.scene g.solver.parts q (body_number g.drag) g.s.now _ g.g (arranged_within c.args.solver.arranged c.requires.scratch) c.inverse_weights.ensures) c.judge-h.ensures in
+    ready_then g.solver.now.sheet.scene g.solver.now.parts g.s.now _ _ _ _ _ _ (judge sc q) (weighed_is sc g.solver.now.sheet.scene g.solver.now.parts q (body_number g.drag) g.s.now _ g.g (arranged_within c.args.solver.now.arranged c.requires.scratch) c.inverse_weights.ensures) c.judge-h.ensures in
     let g = c.args in
-    record { scratch = (arranged_same (judged).size (arranged_within c.args.solver.arranged c.requires.scratch)).poses; q_value = c.requires.q_value; settled = ready_settled (scene_of g.solver.sheet.bytes.now g.solver.sheet.scene) g.solver.sheet.scene g.solver.parts (parameters_of g.q) g.s.now _ _ _ _ (judged) (judge_settled (scene_of g.solver.sheet.bytes.now g.solver.sheet.scene) (parameters_of g.q) (counts (parameters_of g.q) c.requires.q_value) _); s_value = ap all_finite (judged).weights ∙ weights_finite (scene_of g.solver.sheet.bytes.now g.solver.sheet.scene) (parameters_of g.q) (body_number g.drag) }
+    record { scratch = (arranged_same (judged).size (arranged_within c.args.solver.now.arranged c.requires.scratch)).poses; q_value = c.requires.q_value; settled = ready_settled (scene_of g.solver.now.sheet.bytes.now g.solver.now.sheet.scene) g.solver.now.sheet.scene g.solver.now.parts (parameters_of g.q) g.s.now _ _ _ _ (judged) (judge_settled (scene_of g.solver.now.sheet.bytes.now g.solver.now.sheet.scene) (parameters_of g.q) (counts (parameters_of g.q) c.requires.q_value) _); s_value = ap all_finite (judged).weights ∙ weights_finite (scene_of g.solver.now.sheet.bytes.now g.solver.now.sheet.scene) (parameters_of g.q) (body_number g.drag) }
 
 pub returns : goal.returns
 returns c =
-    let judged : let g = c.args in let sc = scene_of g.solver.sheet.bytes.now g.solver.sheet.scene in Ready g.solver.sheet.scene g.solver.parts g.s.now c.judge-h.new.s c.judge-h.result (judge sc (parameters_of g.q) (running_in g.solver.sheet.scene g.solver.parts g.s.now g.g)) (inverse_weights sc (parameters_of g.q) (body_number g.drag)) =
+    let judged : let g = c.args in let sc = scene_of g.solver.now.sheet.bytes.now g.solver.now.sheet.scene in Ready g.solver.now.sheet.scene g.solver.now.parts g.s.now c.judge-h.new.s c.judge-h.result (judge sc (parameters_of g.q) (running_in g.solver.now.sheet.scene g.solver.now.parts g.s.now g.g)) (inverse_weights sc (parameters_of g.q) (body_number g.drag)) =
     let g = c.args in
-    let sc = scene_of g.solver.sheet.bytes.now g.solver.sheet.scene in
+    let sc = scene_of g.solver.now.sheet.bytes.now g.solver.now.sheet.scene in
     let q = parameters_of g.q in
-    ready_then g.solver.sheet.scene g.solver.parts g.s.now _ _ _ _ _ _ (judge sc q) (weighed_is sc g.solver.sheet.scene g.solver.parts q (body_number g.drag) g.s.now _ g.g (arranged_within c.args.solver.arranged c.requires.scratch) c.inverse_weights.ensures) c.judge-h.ensures in
+    ready_then g.solver.now.sheet.scene g.solver.now.parts g.s.now _ _ _ _ _ _ (judge sc q) (weighed_is sc g.solver.now.sheet.scene g.solver.now.parts q (body_number g.drag) g.s.now _ g.g (arranged_within c.args.solver.now.arranged c.requires.scratch) c.inverse_weights.ensures) c.judge-h.ensures in
     let g = c.args in
-    ready_gone (scene_of g.solver.sheet.bytes.now g.solver.sheet.scene) g.solver.sheet.scene g.solver.parts (parameters_of g.q) g.s.now _ _ _ _ _ _ _ g.portion (judged) c.go.ensures (on_is (scene_of g.solver.sheet.bytes.now g.solver.sheet.scene) (parameters_of g.q) (body_number g.drag) g.portion _)
+    ready_gone (scene_of g.solver.now.sheet.bytes.now g.solver.now.sheet.scene) g.solver.now.sheet.scene g.solver.now.parts (parameters_of g.q) g.s.now _ _ _ _ _ _ _ g.portion (judged) c.go.ensures (on_is (scene_of g.solver.now.sheet.bytes.now g.solver.now.sheet.scene) (parameters_of g.q) (body_number g.drag) g.portion _)

@@ -9,11 +9,11 @@ pub one_round-t-requires : goal.one_round-t-requires
 one_round-t-requires c = record { scratch = c.requires.scratch; rows_bound = c.requires.rows_bound.0; s_value = c.requires.s_value }
 
 pub judged-requires : goal.judged-requires
-judged-requires c = record { scratch = (arranged_same c.one_round-t.ensures.keeps.size (arranged_within c.args.solver.arranged c.requires.scratch)).poses }
+judged-requires c = record { scratch = (arranged_same c.one_round-t.ensures.keeps.size (arranged_within c.args.solver.now.arranged c.requires.scratch)).poses }
 
 pub returns : goal.returns
 returns c =
     let g = c.args in
-    one_more_is (scene_of g.solver.sheet.bytes.now g.solver.sheet.scene) g.solver.sheet.scene g.solver.parts (parameters_of g.q) g.s.now _ _ g.g _ c.squares-cost.result c.one_round-t.result c.last_round-stop.result c.squares-cost.ensures c.one_round-t.ensures
+    one_more_is (scene_of g.solver.now.sheet.bytes.now g.solver.now.sheet.scene) g.solver.now.sheet.scene g.solver.now.parts (parameters_of g.q) g.s.now _ _ g.g _ c.squares-cost.result c.one_round-t.result c.last_round-stop.result c.squares-cost.ensures c.one_round-t.ensures
     c.last_round-stop.ensures
     c.judged.ensures

@@ -10,9 +10,9 @@ pub returns-then-converged : goal.returns-then-converged
 returns-then-converged c = better_converged _ _ _ _ _ c.if-converged.true
 
 pub worst-before-requires : goal.worst-before-requires
-worst-before-requires c = record { scratch = (arranged_same c.worst-now.ensures.size (arranged_within c.args.solver.arranged c.requires.scratch)).poses; n_bound = omega arith }
+worst-before-requires c = record { scratch = (arranged_same c.worst-now.ensures.size (arranged_within c.args.solver.now.arranged c.requires.scratch)).poses; n_bound = omega arith }
 
 pub returns : goal.returns
 returns c =
     let g = c.args in
-    better_smaller (scene_of g.solver.sheet.bytes.now g.solver.sheet.scene) g.solver.sheet.scene g.solver.parts g.s.now _ _ g.converged c.worst-now.result c.worst-before.result (arranged_within c.args.solver.arranged c.requires.scratch) c.if-converged.false c.worst-now.ensures c.worst-before.ensures
+    better_smaller (scene_of g.solver.now.sheet.bytes.now g.solver.now.sheet.scene) g.solver.now.sheet.scene g.solver.now.parts g.s.now _ _ g.converged c.worst-now.result c.worst-before.result (arranged_within c.args.solver.now.arranged c.requires.scratch) c.if-converged.false c.worst-now.ensures c.worst-before.ensures

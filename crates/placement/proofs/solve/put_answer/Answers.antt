@@ -8,9 +8,9 @@ use Rattle.placement.proofs.solve.put_answer.Goals as goal
 pub put_errors-requires : goal.put_errors-requires
 put_errors-requires c =
     let y = c.poses_at.ensures.kept.size in
-    record { m_in_bounds = omega (arith, (arranged_within c.args.solver.arranged c.requires.scratch).poses, y); k_in_bounds = c.requires.k_in_bounds }
+    record { m_in_bounds = omega (arith, (arranged_within c.args.solver.now.arranged c.requires.scratch).poses, y); k_in_bounds = c.requires.k_in_bounds }
 
 pub returns : goal.returns
 returns c =
     let g = c.args in
-    shown_is g.solver.sheet.bytes.now g.solver.sheet.scene g.solver.parts _ _ _ _ _ _ _ _ c.poses_at.ensures c.copy_over.ensures c.put_frames.ensures c.put_errors.ensures
+    shown_is g.solver.now.sheet.bytes.now g.solver.now.sheet.scene g.solver.now.parts _ _ _ _ _ _ _ _ c.poses_at.ensures c.copy_over.ensures c.put_frames.ensures c.put_errors.ensures

@@ -11,36 +11,36 @@ use Rattle.placement.proofs.solve.retry.Goals as goal
 pub run-again-requires : goal.run-again-requires
 run-again-requires c =
     let g = c.args in
-    let w = again_weights g.solver.sheet.scene g.solver.parts g.s.now _ _ _ (arranged_within c.args.solver.arranged c.requires.scratch) c.copy.ensures c.put_turn.ensures in
-    record { scratch = (arranged_same (c.put_turn.ensures.kept.size ∙ c.copy.ensures.kept.size) (arranged_within c.args.solver.arranged c.requires.scratch)).poses; limit = c.requires.limit; s_value = ap all_finite w ∙ c.requires.s_value }
+    let w = again_weights g.solver.now.sheet.scene g.solver.now.parts g.s.now _ _ _ (arranged_within c.args.solver.now.arranged c.requires.scratch) c.copy.ensures c.put_turn.ensures in
+    record { scratch = (arranged_same (c.put_turn.ensures.kept.size ∙ c.copy.ensures.kept.size) (arranged_within c.args.solver.now.arranged c.requires.scratch)).poses; limit = c.requires.limit; s_value = ap all_finite w ∙ c.requires.s_value }
 
 pub better-kept-requires : goal.better-kept-requires
 better-kept-requires c =
-    let again : let g = c.args in Again (scene_of g.solver.sheet.bytes.now g.solver.sheet.scene) g.solver.sheet.scene g.solver.parts (parameters_of g.q) g.s.now c.run-again.new.s c.run-again.result.converged =
+    let again : let g = c.args in Again (scene_of g.solver.now.sheet.bytes.now g.solver.now.sheet.scene) g.solver.now.sheet.scene g.solver.now.parts (parameters_of g.q) g.s.now c.run-again.new.s c.run-again.result.converged =
     let g = c.args in
-    again_is (scene_of g.solver.sheet.bytes.now g.solver.sheet.scene) g.solver.sheet.scene g.solver.parts (parameters_of g.q) g.s.now _ _ _ _ (arranged_within c.args.solver.arranged c.requires.scratch) c.copy.ensures c.put_turn.ensures c.run-again.ensures in
-    record { scratch = (arranged_same (again).size (arranged_within c.args.solver.arranged c.requires.scratch)).poses }
+    again_is (scene_of g.solver.now.sheet.bytes.now g.solver.now.sheet.scene) g.solver.now.sheet.scene g.solver.now.parts (parameters_of g.q) g.s.now _ _ _ _ (arranged_within c.args.solver.now.arranged c.requires.scratch) c.copy.ensures c.put_turn.ensures c.run-again.ensures in
+    record { scratch = (arranged_same (again).size (arranged_within c.args.solver.now.arranged c.requires.scratch)).poses }
 
 pub returns-then-kept : goal.returns-then-kept
 returns-then-kept c =
-    let again : let g = c.args in Again (scene_of g.solver.sheet.bytes.now g.solver.sheet.scene) g.solver.sheet.scene g.solver.parts (parameters_of g.q) g.s.now c.run-again.new.s c.run-again.result.converged =
+    let again : let g = c.args in Again (scene_of g.solver.now.sheet.bytes.now g.solver.now.sheet.scene) g.solver.now.sheet.scene g.solver.now.parts (parameters_of g.q) g.s.now c.run-again.new.s c.run-again.result.converged =
     let g = c.args in
-    again_is (scene_of g.solver.sheet.bytes.now g.solver.sheet.scene) g.solver.sheet.scene g.solver.parts (parameters_of g.q) g.s.now _ _ _ _ (arranged_within c.args.solver.arranged c.requires.scratch) c.copy.ensures c.put_turn.ensures c.run-again.ensures in
+    again_is (scene_of g.solver.now.sheet.bytes.now g.solver.now.sheet.scene) g.solver.now.sheet.scene g.solver.now.parts (parameters_of g.q) g.s.now _ _ _ _ (arranged_within c.args.solver.now.arranged c.requires.scratch) c.copy.ensures c.put_turn.ensures c.run-again.ensures in
     λ first h e.
-    retry_kept _ _ _ _ _ _ _ _ _ first (arranged_within c.args.solver.arranged c.requires.scratch) (again) c.better-kept.ensures e c.if-kept.true
+    retry_kept _ _ _ _ _ _ _ _ _ first (arranged_within c.args.solver.now.arranged c.requires.scratch) (again) c.better-kept.ensures e c.if-kept.true
 
 pub copy-requires-2 : goal.copy-requires-2
 copy-requires-2 c =
-    let again : let g = c.args in Again (scene_of g.solver.sheet.bytes.now g.solver.sheet.scene) g.solver.sheet.scene g.solver.parts (parameters_of g.q) g.s.now c.run-again.new.s c.run-again.result.converged =
+    let again : let g = c.args in Again (scene_of g.solver.now.sheet.bytes.now g.solver.now.sheet.scene) g.solver.now.sheet.scene g.solver.now.parts (parameters_of g.q) g.s.now c.run-again.new.s c.run-again.result.converged =
     let g = c.args in
-    again_is (scene_of g.solver.sheet.bytes.now g.solver.sheet.scene) g.solver.sheet.scene g.solver.parts (parameters_of g.q) g.s.now _ _ _ _ (arranged_within c.args.solver.arranged c.requires.scratch) c.copy.ensures c.put_turn.ensures c.run-again.ensures in
-    let a = arranged_same (c.better-kept.ensures.size ∙ (again).size) (arranged_within c.args.solver.arranged c.requires.scratch) in
+    again_is (scene_of g.solver.now.sheet.bytes.now g.solver.now.sheet.scene) g.solver.now.sheet.scene g.solver.now.parts (parameters_of g.q) g.s.now _ _ _ _ (arranged_within c.args.solver.now.arranged c.requires.scratch) c.copy.ensures c.put_turn.ensures c.run-again.ensures in
+    let a = arranged_same (c.better-kept.ensures.size ∙ (again).size) (arranged_within c.args.solver.now.arranged c.requires.scratch) in
     record { k_bound = omega (arith, a.first); k_in_bounds = omega (arith, a.first, a.x, a.slopes, a.matrix, a.weights, a.damped, a.right, a.rows, a.next, a.ahead, a.poses) }
 
 pub returns : goal.returns
 returns c =
-    let again : let g = c.args in Again (scene_of g.solver.sheet.bytes.now g.solver.sheet.scene) g.solver.sheet.scene g.solver.parts (parameters_of g.q) g.s.now c.run-again.new.s c.run-again.result.converged =
+    let again : let g = c.args in Again (scene_of g.solver.now.sheet.bytes.now g.solver.now.sheet.scene) g.solver.now.sheet.scene g.solver.now.parts (parameters_of g.q) g.s.now c.run-again.new.s c.run-again.result.converged =
     let g = c.args in
-    again_is (scene_of g.solver.sheet.bytes.now g.solver.sheet.scene) g.solver.sheet.scene g.solver.parts (parameters_of g.q) g.s.now _ _ _ _ (arranged_within c.args.solver.arranged c.requires.scratch) c.copy.ensures c.put_turn.ensures c.run-again.ensures in
+    again_is (scene_of g.solver.now.sheet.bytes.now g.solver.now.sheet.scene) g.solver.now.sheet.scene g.solver.now.parts (parameters_of g.q) g.s.now _ _ _ _ (arranged_within c.args.solver.now.arranged c.requires.scratch) c.copy.ensures c.put_turn.ensures c.run-again.ensures in
     λ first h e.
-    retry_left _ _ _ _ _ _ _ _ _ first (arranged_within c.args.solver.arranged c.requires.scratch) (again) c.better-kept.ensures e _ c.if-kept.false h c.copy-2.ensures
+    retry_left _ _ _ _ _ _ _ _ _ first (arranged_within c.args.solver.now.arranged c.requires.scratch) (again) c.better-kept.ensures e _ c.if-kept.false h c.copy-2.ensures

@@ -11,4 +11,4 @@ rows_at-requires c = record { n_bound = omega arith; rows_bound = omega arith; m
 pub returns : goal.returns
 returns c =
     let g = c.args in
-    worst_is (scene_of g.solver.sheet.bytes.now g.solver.sheet.scene) g.solver.sheet.scene g.solver.parts g.s.now _ g.x _ c.rows_at.ensures c.largest.ensures
+    worst_is (scene_of g.solver.now.sheet.bytes.now g.solver.now.sheet.scene) g.solver.now.sheet.scene g.solver.now.parts g.s.now _ g.x _ c.rows_at.ensures c.largest.ensures

@@ -13,7 +13,7 @@ rows_at-requires c =
 
 pub returns : goal.returns
 returns c =
-    advanced (scene_of c.args.self.sheet.bytes.now c.args.self.sheet.scene) c.args.self.sheet.scene c.args.self.parts _ _ _ c.squares.result _ (arranged_within c.args.self.arranged c.requires.scratch)
+    advanced (scene_of c.args.self.now.sheet.bytes.now c.args.self.now.sheet.scene) c.args.self.now.sheet.scene c.args.self.now.parts _ _ _ c.squares.result _ (arranged_within c.args.self.now.arranged c.requires.scratch)
     c.step.ensures
     c.rows_at.ensures
     c.squares.ensures

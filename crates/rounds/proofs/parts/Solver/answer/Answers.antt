@@ -18,6 +18,6 @@ returns c =
     let y = c.damp.ensures in
     let z = c.copy.ensures in
     let sizes = z.kept.size ∙ y.kept.size ∙ x.kept.size in
-    let h : g.self.parts.damped ≤ length w = omega arith in
-    rw (put_tail g.self.parts.damped w q h)
-    (answer_is g.self.sheet.scene g.self.parts _ _ _ w q g.mu _ _ _ (arranged_within c.args.self.arranged c.requires.scratch) h c.diag_max-most.ensures x y z (rest_lent g.self.parts.damped w _ _ _ c.solve_dense.ensures))
+    let h : g.self.now.parts.damped ≤ length w = omega arith in
+    rw (put_tail g.self.now.parts.damped w q h)
+    (answer_is g.self.now.sheet.scene g.self.now.parts _ _ _ w q g.mu _ _ _ (arranged_within c.args.self.now.arranged c.requires.scratch) h c.diag_max-most.ensures x y z (rest_lent g.self.now.parts.damped w _ _ _ c.solve_dense.ensures))

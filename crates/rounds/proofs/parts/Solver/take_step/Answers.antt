@@ -5,4 +5,4 @@ use Rattle.rounds.proofs.TrialLaws.{step_taken}
 use Rattle.rounds.proofs.parts.Solver.take_step.Goals as goal
 
 pub returns : goal.returns
-returns c = step_taken c.args.self.sheet.scene c.args.self.parts _ _ _ _ (arranged_within c.args.self.arranged c.requires.scratch) c.copy.ensures c.copy-2.ensures
+returns c = step_taken c.args.self.now.sheet.scene c.args.self.now.parts _ _ _ _ (arranged_within c.args.self.now.arranged c.requires.scratch) c.copy.ensures c.copy-2.ensures

@@ -9,7 +9,7 @@ pub loop-i-init : goal.loop-i-init
 loop-i-init c = (omega arith, trying_start _ _ _ _ _ _)
 
 pub trial-t-requires : goal.trial-t-requires
-trial-t-requires c = record { scratch = (arranged_same c.loop-i.invariant.1.leaves.keeps.size (arranged_within c.args.self.arranged c.requires.scratch)).poses; rows_bound = c.requires.rows_bound }
+trial-t-requires c = record { scratch = (arranged_same c.loop-i.invariant.1.leaves.keeps.size (arranged_within c.args.self.now.arranged c.requires.scratch)).poses; rows_bound = c.requires.rows_bound }
 
 pub shape_of-s-then-t : goal.shape_of-s-then-t
 shape_of-s-then-t c = let x = c.trial-t in omega (arith, x.ensures.leaves.keeps.size, c.loop-i.invariant.1.leaves.keeps.size)
@@ -18,14 +18,14 @@ pub returns-then-t : goal.returns-then-t
 returns-then-t c =
     let o = c.args in
     let x = c.trial-t in
-    trying_better (scene_of o.self.sheet.bytes.now o.self.sheet.scene) o.self.sheet.scene o.self.parts o.s.now c.loop-i.s _ o.cost o.mu c.loop-i.stiffness c.loop-i.i x.result (omega arith) c.loop-i.invariant.1 x.ensures c.if-t.true
+    trying_better (scene_of o.self.now.sheet.bytes.now o.self.now.sheet.scene) o.self.now.sheet.scene o.self.now.parts o.s.now c.loop-i.s _ o.cost o.mu c.loop-i.stiffness c.loop-i.i x.result (omega arith) c.loop-i.invariant.1 x.ensures c.if-t.true
 
 pub loop-i-preserved : goal.loop-i-preserved
 loop-i-preserved c =
     let o = c.args in
     let x = c.trial-t in (
       omega arith,
-      trying_worse (scene_of o.self.sheet.bytes.now o.self.sheet.scene) o.self.sheet.scene o.self.parts o.s.now c.loop-i.s _ o.cost o.mu c.loop-i.stiffness c.loop-i.i x.result (omega arith) c.loop-i.invariant.1 x.ensures c.if-t.false,
+      trying_worse (scene_of o.self.now.sheet.bytes.now o.self.now.sheet.scene) o.self.now.sheet.scene o.self.now.parts o.s.now c.loop-i.s _ o.cost o.mu c.loop-i.stiffness c.loop-i.i x.result (omega arith) c.loop-i.invariant.1 x.ensures c.if-t.false,
     )
 
 pub shape_of-s : goal.shape_of-s
@@ -34,4 +34,4 @@ shape_of-s c = c.loop-i.invariant.1.leaves.keeps.size
 pub returns : goal.returns
 returns c =
     let o = c.args in
-    trying_end (scene_of o.self.sheet.bytes.now o.self.sheet.scene) o.self.sheet.scene o.self.parts o.s.now c.loop-i.s o.cost o.mu c.loop-i.stiffness c.loop-i.i (omega arith) c.loop-i.invariant.1
+    trying_end (scene_of o.self.now.sheet.bytes.now o.self.now.sheet.scene) o.self.now.sheet.scene o.self.now.parts o.s.now c.loop-i.s o.cost o.mu c.loop-i.stiffness c.loop-i.i (omega arith) c.loop-i.invariant.1
