@@ -14,7 +14,7 @@ use lists::answers::Tally;
 use lists::lent::BEFORE;
 use lists::list;
 use lists::list::{replay, word};
-use solving::{arguments_of, solved, values_before};
+use solving::{Outputs, arguments_of, solved, values_before};
 use std::io;
 use std::io::Read;
 
@@ -29,14 +29,23 @@ fn answered(
 ) -> bool {
     let before = *running;
     let w = values_before(c.unknowns, c.rows, before.done, before.run);
-    let (v, o) = solved(
+    let mut o = Outputs {
+        state: before.doubles,
+        poses: [BEFORE; 256],
+        frames: [BEFORE; 256],
+        errors: [BEFORE; 256],
+    };
+    let v = solved(
         s,
         step,
         arguments_of(c),
         w,
         c.lengths,
         scratch,
-        before.doubles,
+        &mut o.state,
+        &mut o.poses,
+        &mut o.frames,
+        &mut o.errors,
     );
     *running = Running {
         done: u64::from(v.done),

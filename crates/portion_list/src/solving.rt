@@ -4,7 +4,6 @@ ghost use Rattle.std.specs.Prelude.{◌≡◌, ◌%◌, ◌^◌};
 ghost use Rattle.portion_list.specs.Asked as spec;
 
 use crate::asked::{Call, Lengths, Step, at_most};
-use lists::lent::BEFORE;
 use sheet::going::{sheet_solve_begin, sheet_solve_on};
 
 // The drag, the set and the portion as a call takes them.
@@ -145,7 +144,7 @@ fn gone_on(s: &[u8], q: Arguments, v: Values, lent: Lent) -> Values {
     Values { number, ..w }
 }
 
-// What the call that the list asks for gives, and the memory after it. The state is `doubles` before, and as many doubles are lent as the call says.
+// What the call that the list asks for gives. As many doubles of the scratch and of the memory for its answer are lent as the call says.
 pub fn solved(
     s: &[u8],
     step: Step,
@@ -153,25 +152,25 @@ pub fn solved(
     v: Values,
     l: Lengths,
     scratch: &mut [f64],
-    doubles: [f64; 256],
-) -> (Values, Outputs) {
-    let mut outputs = Outputs {
-        state: doubles,
-        poses: [BEFORE; 256],
-        frames: [BEFORE; 256],
-        errors: [BEFORE; 256],
-    };
+    state: &mut [f64],
+    poses: &mut [f64],
+    frames: &mut [f64],
+    errors: &mut [f64],
+) -> Values {
     let n = at_most(l.scratch, scratch.len());
+    let states = at_most(l.state, state.len());
+    let places = at_most(l.poses, poses.len());
+    let squares = at_most(l.frames, frames.len());
+    let rows = at_most(l.errors, errors.len());
     let lent = Lent {
         scratch: &mut scratch[..n],
-        state: &mut outputs.state[..at_most(l.state, 256)],
-        poses: &mut outputs.poses[..at_most(l.poses, 256)],
-        frames: &mut outputs.frames[..at_most(l.frames, 256)],
-        errors: &mut outputs.errors[..at_most(l.errors, 256)],
+        state: &mut state[..states],
+        poses: &mut poses[..places],
+        frames: &mut frames[..squares],
+        errors: &mut errors[..rows],
     };
-    let values = match step {
+    match step {
         Step::Begin => begun(s, q, v, lent),
         Step::On => gone_on(s, q, v, lent),
-    };
-    (values, outputs)
+    }
 }
