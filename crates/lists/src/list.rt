@@ -39,7 +39,8 @@ fn open<R: Files + Eprint>(rt: &R, path: &str) -> io::Result<ListFile<R::File>> 
 // The next word after a list's end.
 pub const END: u64 = 0xFFFF_FFFF_FFFF_FFFF;
 
-// Reads until s is full, the list ends or a read fails, and returns how many bytes it put at the start of s.
+// Reads until s is full, the list ends or a read fails, and returns how many bytes it put at the start of s. `read_exact` would
+// ask a reader that is interrupted again and again.
 pub fn read_full(file: &mut impl Read, s: &mut [u8]) -> usize
     ensures { result ≤ length s.new }
 {

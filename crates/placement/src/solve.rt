@@ -122,7 +122,7 @@ fn solved(solver: &Solver, s: &mut [f64], q: Parameters, drag: Option<usize>) ->
     retry(solver, s, q)
 }
 
-// The k doubles of s from o on copied to d, from `at` on.
+// The k doubles of s from o on copied to d, from `at` on. `copy_from_slice` would call `memmove`, which libsheet.a needs nowhere else.
 pub fn copy_over(s: &[f64], o: usize, d: &mut [f64], at: usize, k: usize)
     requires k_in_bounds { o + k ≤ length s.now }
     requires k_in_bounds_2 { at + k ≤ length d.old }

@@ -157,17 +157,17 @@ pub fn solved(
     frames: &mut [f64],
     errors: &mut [f64],
 ) -> Values {
-    let n = at_most(l.scratch, scratch.len());
-    let states = at_most(l.state, state.len());
-    let places = at_most(l.poses, poses.len());
-    let squares = at_most(l.frames, frames.len());
-    let rows = at_most(l.errors, errors.len());
+    let scratch_len = at_most(l.scratch, scratch.len());
+    let state_len = at_most(l.state, state.len());
+    let poses_len = at_most(l.poses, poses.len());
+    let frames_len = at_most(l.frames, frames.len());
+    let errors_len = at_most(l.errors, errors.len());
     let lent = Lent {
-        scratch: &mut scratch[..n],
-        state: &mut state[..states],
-        poses: &mut poses[..places],
-        frames: &mut frames[..squares],
-        errors: &mut errors[..rows],
+        scratch: &mut scratch[..scratch_len],
+        state: &mut state[..state_len],
+        poses: &mut poses[..poses_len],
+        frames: &mut frames[..frames_len],
+        errors: &mut errors[..errors_len],
     };
     match step {
         Step::Begin => begun(s, q, v, lent),

@@ -60,7 +60,7 @@ pub fn solve_parts(scene: Scene) -> SolveParts
     }
 }
 
-// What a run works on: a sheet, and the places of its parts in the lent scratch. They end behind the poses.
+// What a run works on: a sheet, and the places of its parts in the lent scratch. They end behind the poses. It is handed on by reference: a copy is 432 bytes of stack.
 #[derive(Clone, Copy)]
 pub struct Solver<'a> {
     pub sheet: Sheet<'a>,
